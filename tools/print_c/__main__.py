@@ -1,26 +1,30 @@
 """Prints the proved library as one file of C:
 
     python3 tools/print_c KIT LIBRARIES HEADER CRATES >FILE.c
+
+mir.py reads what the compiler knows of a crate, liveness.py says how often locals are read, source.py reads names and comments.
+library.py says which functions are printed. Of each, evaluate.py goes through the body, and makes statements of it: frames.py
+has the names of its locals, values.py what they hold, places.py and memory.py read and write, choices.py has conditions and
+loops, calls.py has calls. expression.py and statement.py are the words of C, forms.py says what stands for what, and write.py
+makes text of it. head.c is the beginning of the text.
 """
 import pathlib
-import re
 import sys
 
 from library import CRATES, Library
+from mir import read_crates
 from source import Sources
 
 
 def main(kit: str, libraries: str, header: str, crates: str) -> str:
     folders = [pathlib.Path(kit) / "rlibs/core.rlib", *(pathlib.Path(libraries) / f"{name}.rlib" for name in CRATES)]
-    text = pathlib.Path(header).read_text()
-    library = Library(folders, text, Sources(pathlib.Path(crates), list(CRATES)))
+    sources = Sources(pathlib.Path(crates), list(CRATES))
+    library = Library(read_crates(folders), pathlib.Path(header).read_text(), sources)
     by_name = {path.split("::")[-1]: path for path in library.crates.tokens if path.startswith("sketch_c::")}
-    roots = [by_name[name] for name in library.declared]
-    if len(sys.argv) > 5:
-        roots = [by_name[name] for name in sys.argv[5:]]
-    return library.text((pathlib.Path(__file__).parent / "head.c").read_text(), roots)
+    head = pathlib.Path(__file__).with_name("head.c").read_text()
+    return library.text(head, [by_name[name] for name in library.declared])
 
 
 if __name__ == "__main__":
     sys.setrecursionlimit(5000)
-    sys.stdout.write(main(*sys.argv[1:5]))
+    sys.stdout.write(main(*sys.argv[1:]))

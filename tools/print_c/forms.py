@@ -1,12 +1,12 @@
-"""What the types and the functions of the source are in C. What is in none of these tables stays out of the text, or stops it."""
+"""What the types and the functions of the source are in C. What is in none of these tables stays out of the text."""
 from __future__ import annotations
 
 import re
 from typing import Callable
 
-import mir
-from expression import BOOL, NUMBERS, VOID, CType, Expression, Pointer, Struct, call, convert, number
-from mir import Unknown
+from expression import BOOL, NUMBERS, VOID, CType, Expression, Pointer, Struct, at, call, convert, number, value_of
+from mir import BYTE, UNIT, WORD, Crates, Type, Unknown
+from mir import BOOL as FLAG
 
 # Structs of the source that are structs of C. A function with any other in its signature is written out where it is called.
 STRUCTS = {
@@ -32,8 +32,10 @@ TITLES = ("Words", "Copies of a few bytes", "Offsets of columns", "XXH64", "Murm
           "Results of calls", "Calls")
 # C allows no offset from NULL. Only these calls compute one from a pointer of no bytes, and take another pointer for it.
 OFFSET_OF_NOTHING = re.compile(r"sketch_murmur3_x64_128$|sketch_\w+_each(32|64)$")
+# The names of constant arrays.
+ARRAYS = {(28, 28, 0, 0, 28, 28, 0, 0, 28, 28, 0, 0, 0): "skh_union_fields"}
 # The numbers that stand for errors, by the function that returns them.
-STATUSES = {0: "SKETCH_OK", -1: "SKETCH_ERROR_LENGTH", -2: "SKETCH_ERROR_OFFSET", -3: "SKETCH_ERROR_COUNT",
+STATUSES = {1: "1", 0: "SKETCH_OK", -1: "SKETCH_ERROR_LENGTH", -2: "SKETCH_ERROR_OFFSET", -3: "SKETCH_ERROR_COUNT",
             -5: "SKETCH_ERROR_SEED"}
 
 PAIR = Struct("struct skh_pair", 0, (("first", NUMBERS[64]), ("second", NUMBERS[64])))
@@ -41,7 +43,7 @@ OPTION = Struct("struct skh_option", 0, (("is_some", BOOL), ("value", NUMBERS[64
 RESULT = Struct("struct skh_result", 0, (("is_error", BOOL), ("value", NUMBERS[64])))
 
 
-class NoForm(Exception):
+class NoForm(Unknown):
     """The type has no form in C."""
 
 
@@ -52,85 +54,79 @@ def part_of(path: str) -> tuple[str, str]:
     raise Unknown(f"the part of the text for {path}")
 
 
-def struct_of(type: mir.Named, crates: mir.Crates, members: Callable[[str], list[str]]) -> Struct:
+def struct_of(type: Type, crates: Crates, members: dict[str, list[str]]) -> Struct:
     if type.name not in STRUCTS:
         raise NoForm(type)
-    _, fields = crates.shape(type)
-    forms = []
-    for name, own in zip(members(type.name), fields, strict=True):
-        if own == mir.Int(64):
-            forms.append((name, NUMBERS[64]))
-        elif isinstance(own, mir.Array) and own.of == mir.Int(8) and isinstance(own.count, int):
-            forms.append((name, own.count))
-        else:
+    forms: list[tuple[str, CType | int]] = []
+    for name, own in zip(members[type.name], crates.shape(type)[1], strict=True):
+        if own != WORD and (own.word, own.args[:1]) != ("Array", (BYTE,)):
             raise Unknown(f"a member of {type.name}: {own}")
+        forms.append((name, NUMBERS[64] if own == WORD else own.count))
     return Struct(STRUCTS[type.name], 0, tuple(forms))
 
 
-def pointer_to(type: mir.Type, is_mut: bool, is_slice: bool, struct: Callable[[mir.Named], Struct]) -> Pointer:
+def pointer_to(type: Type, is_const: bool, is_slice: bool, struct: Callable[[Type], Struct]) -> Pointer:
     """Bytes are `unsigned char`, numbers are of their width, and rows of two numbers are rows."""
-    if isinstance(type, mir.Array):
-        if is_slice and isinstance(type.of, mir.Int) and type.of.bits > 8 and isinstance(type.count, int):
-            return Pointer(f"uint{type.of.bits}_t", 0, type.of.bits // 8 * type.count, not is_mut, type.count, True)
-        inner = pointer_to(type.of, is_mut, False, struct)
-        return Pointer(inner.text, 0, inner.size, inner.is_const, is_array=True)
-    if type == mir.Int(8):
-        return Pointer("unsigned char", 0, 1, not is_mut)
-    if isinstance(type, mir.Int):
-        return Pointer(f"uint{type.bits}_t", 0, type.bits // 8, not is_mut, is_column=is_slice)
-    if isinstance(type, mir.Named):
-        return Pointer(struct(type).text, 0, 0, not is_mut)
+    if type.word == "Array":
+        if is_slice and type.of == WORD:
+            return Pointer("uint64_t", 0, 8 * type.count, is_const, type.count, True)
+        inner = pointer_to(type.of, is_const, False, struct)
+        return Pointer(inner.text, 0, inner.size, is_const, is_array=True)
+    if type == BYTE:
+        return Pointer("unsigned char", 0, 1, is_const)
+    if type.bits in (32, 64) or type.bits == 16 and not is_slice:
+        return Pointer(f"uint{type.bits}_t", 0, type.bits // 8, is_const, is_column=is_slice)
+    if type.word == "Named":
+        return Pointer(struct(type).text, 0, 0, is_const)
     raise NoForm(type)
 
 
-def result_of(type: mir.Type, struct: Callable[[mir.Named], Struct]) -> CType:
+def result_of(type: Type, struct: Callable[[Type], Struct]) -> CType:
     """What a function returns: a number, two, one or none, one or the number of an error."""
-    if type == mir.Unit():
-        return VOID
-    if type == mir.Bool():
-        return BOOL
-    if isinstance(type, mir.Int):
+    if type.bits:
         return NUMBERS[type.bits]
-    word = mir.Int(64)
-    if isinstance(type, mir.Named):
-        if type == mir.Named("(,)", (word, word)):
-            return PAIR
-        if type == mir.Named("core::option::Option", (word,)):
-            return OPTION
-        if type.name == "core::result::Result" and type.args[0] in (word, mir.Unit()) and type.args[1] == word:
-            return RESULT
-        return struct(type)
-    raise NoForm(type)
+    if type.word != "Named":
+        if type not in (UNIT, FLAG):
+            raise NoForm(type)
+        return VOID if type == UNIT else BOOL
+    if type.args == ("(,)", (WORD, WORD)):
+        return PAIR
+    if type.args == ("core::option::Option", (WORD,)):
+        return OPTION
+    if type.args in (("core::result::Result", (WORD, WORD)), ("core::result::Result", (UNIT, WORD))):
+        return RESULT
+    return struct(type)
 
 
 # ---- Functions of the standard library that have a form of their own. All others are written out from their bodies.
 
-def from_bytes(bits: int) -> Callable[..., Expression]:
-    def read(pointer: Expression) -> Expression:
-        return load(pointer, bits)
-    return read
-
-
 def load(pointer: Expression, bits: int) -> Expression:
     """The number of so many bytes, the lowest first."""
+    if pointer.type.size != 1 or bits not in (16, 32, 64, 128):
+        raise Unknown(f"a number of {bits} bits from {pointer.type}")
     if bits == 128:
-        from expression import at
         return call("skh_wide", NUMBERS[128], [load(at(pointer, number(8, 64)), 64), load(pointer, 64)])
     return Expression("load", NUMBERS[bits], (pointer,))
 
 
-def rotated(word: Expression, places: Expression) -> Expression:
+def rotate_left(word: Expression, places: Expression) -> Expression:
     return call("skh_rotate64", NUMBERS[64], [word, convert(places, 64)])
 
 
+def rotate_right(word: Expression, places: Expression) -> Expression:
+    if value_of(places) is None:
+        raise Unknown("rotate_right by an unknown number")
+    return rotate_left(word, number(64 - places.args[0], 64))
+
+
 NUMBER_CALLS: dict[str, Callable[..., Expression]] = {
-    "core::int::u64::rotate_left": rotated,
-    "core::int::usize::rotate_right": lambda word, places: rotated(word, number(64 - places.args[0], 64)),
+    "core::int::u64::rotate_left": rotate_left,
+    "core::int::usize::rotate_right": rotate_right,
     "core::int::usize::min": lambda a, b: call("skh_least64", NUMBERS[64], [a, b]),
     "core::int::usize::saturating_sub": lambda a, b: call("skh_less64", NUMBERS[64], [a, b]),
 }
 FROM_BYTES = {f"core::int::u{bits}::from_le_bytes": bits for bits in (16, 32, 64, 128)}
-TO_BYTES = {f"core::int::u{bits}::to_le_bytes": bits for bits in (64, 128)}
+TO_BYTES = {f"core::int::u{bits}::to_le_bytes" for bits in (64, 128)}
 # These cut a slice into pieces, which keeps the name that the caller has for it.
 CUTS = ("core::simd::chunks::slice+T::as_chunks", "sketch_hash::hash::words::split_pieces")
 COPY = "core::slice::edits::slice+T::copy_from_slice"
@@ -139,7 +135,3 @@ COPY = "core::slice::edits::slice+T::copy_from_slice"
 def local_name(struct: str) -> str:
     """hasher of struct skh_murmur3_hasher, state of sketch_xxh64_state_t"""
     return struct.removesuffix("_t").split("_")[-1]
-
-
-def snake(name: str) -> str:
-    return re.sub(r"(?<!^)(?=[A-Z])", "_", name).lower()

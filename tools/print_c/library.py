@@ -1,51 +1,54 @@
 """The functions that are printed: their names, their signatures, their order, and the text around their bodies."""
 from __future__ import annotations
 
-import json
-import pathlib
 import re
 from dataclasses import dataclass, field
+from typing import Iterable
 
 import forms
-import mir
 from evaluate import Body
-from expression import BOOL, INT, NUMBERS, SIZE, VOID, CType, Expression, Pointer, Struct, Variable, call, variable
-from forms import NoForm
-from mir import Given, Unknown
+from expression import (BOOL, CHANGES, INT, NONE, NUMBERS, READS, SIZE, VOID, CType, Expression, Pointer, Struct, Variable,
+                        call, convert, variable)
+from mir import BOOL as FLAG
+from mir import BYTE, Crates, Given, Statement, Type, Unknown
 from source import Sources
-from statement import Comment, Declare, Do, Give, Node, When, While, all_nodes, expressions_of, inline_once, lists_of, read_in, tidy, without_unread
+from statement import (Comment, Declare, Do, Give, Node, When, While, all_nodes, expressions_of, inline_once, lists_of,
+                       reads_of, tidy, without_unread)
 from values import Parts, Value
 from write import Writer, comment
 
 CRATES = ("sketch_base", "sketch_hash", "datasketches", "sketch_bloom", "sketch_c")
 # What is evaluated where it is called, since in C it is one operator.
-WRITTEN_OUT = re.compile(r"^core::|::fn::|\+Fn|^sketch_hash::hash::(words::read_|value::|columns::U\d+Offset|murmurhash::block_word)"
-                         r"|^sketch_bloom::folds::word$")
+WRITTEN_OUT = re.compile(r"^core::|::fn::|\+Fn|^sketch_hash::hash::(words::read_|value::|columns::U\d+Offset)"
+                         r"|^sketch_hash::hash::murmurhash::block_word|^sketch_bloom::folds::word$")
 # Functions of one name that belong to different types.
 OWNERS = {"MurmurState": "state_", "XxHash64State": "state_"}
 SELF = {"MurmurState": "state", "XxHash64State": "state", "ScalarLanes": "lanes", "MurmurHash3X64128": "hasher",
         "MurmurHash3X64128Hasher": "hasher", "XxHash64": "hasher"}
+STORAGE = {"always": "SKH_INLINE", "never": "static SKH_NOINLINE", "": "static"}
+HEADER_TYPES = {own.text: own for own in (INT, SIZE, VOID, NUMBERS[16], NUMBERS[32], NUMBERS[64])}
+DECLARATION = re.compile(r"/\*\*((?:(?!\*/).)*)\*/\nSKETCH_HASH_API ([^;(]+?) ?\b(sketch_\w+)\(([^;]*)\);", re.S)
+Parameters = list[tuple[Value, list[Variable]]]  # of each what it is at the beginning, and its variables in C
 
 
 @dataclass(eq=False)
 class Printed:
-    """A function of C."""
+    """A function of C. One of the header has the text of its parameters there."""
 
     name: str
     title: str
-    types: list[mir.Type]
+    types: list[Type]
     parameters: list[Variable]
     result: CType
-    reads: bool
-    has_effect: bool
+    effect: int
     about: list[str]
     storage: str
     source: str = ""  # its name there
-    requires: list[str] = field(default_factory=list)
+    requires: str = ""
     head: str = ""
-    is_used: list[bool] = field(default_factory=list)
     body: list[Node] = field(default_factory=list)
-    calls: list[str] = field(default_factory=list)
+    calls: dict[str, None] = field(default_factory=dict)  # in their order
+    is_used: list[bool] = field(default_factory=list)  # of each parameter
 
 
 @dataclass
@@ -60,289 +63,228 @@ class Declared:
 
 def read_header(text: str) -> dict[str, Declared]:
     out = {}
-    for about, result, name, parameters in re.findall(
-            r"/\*\*((?:(?!\*/).)*)\*/\nSKETCH_HASH_API ([^;(]+?) ?\b(sketch_\w+)\(([^;]*)\);", text, re.S):
-        lines = [re.sub(r"^ \*( |$)", "", line) for line in about.strip().split("\n")]
+    for about, result, name, parameters in DECLARATION.findall(text):
+        first = re.sub(r"(?m)^ \*( |$)", "", about.strip()).split("\n\n")[0].replace("\n", " ")
         flat = re.sub(r"\s+", " ", parameters)
-        names = [] if flat == "void" else [re.match(r"(.*?)\(?\*?(\w+)\)?(?:\[\d*\])*$", own.strip()).groups() for own in flat.split(",")]
-        first = "\n".join(lines).split("\n\n")[0].replace("\n", " ")
-        types = {"int": INT, "size_t": SIZE, "void": VOID, "uint64_t": NUMBERS[64], "uint32_t": NUMBERS[32], "uint16_t": NUMBERS[16]}
-        out[name] = Declared(first, types[result], flat, [(type + "*" * ("*" in own), name) for (type, name), own in zip(names, flat.split(","))])
+        names = re.findall(r"([^,]*?[ *(])(\w+)\)?(?:\[\d*\])*(?:,|$)", flat) if flat != "void" else []
+        out[name] = Declared(first, HEADER_TYPES[result], flat, names)
     return out
 
 
 class Library:
-    def __init__(self, folders: list[pathlib.Path], header: str, sources: Sources):
-        self.crates, self.sources = mir.Crates(folders), sources
-        self.declared = read_header(header)
-        self.done: dict[str, Printed | None] = {}
+    def __init__(self, crates: Crates, header: str, sources: Sources):
+        self.crates, self.sources, self.declared = crates, sources, read_header(header)
+        self.done: dict[tuple[str, Given], Printed | None] = {}
         self.by_name: dict[str, Printed] = {}
         self.arrays: dict[tuple[int, ...], Variable] = {}
         self.with_vectors: set[str] = set()  # functions that are told whether there are vectors,
         self.chosen: set[str] = set()  # and those that find out, and call one that is told
 
-    # ---- Types
+    def struct(self, type: Type) -> Struct:
+        return forms.struct_of(type, self.crates, self.sources.members)
 
-    def struct(self, type: mir.Named) -> Struct:
-        return forms.struct_of(type, self.crates, lambda name: self.sources.members[name])
+    def constant(self, type: Type, values: tuple[int, ...]) -> Expression:
+        if type.word != "Array" or type.of != BYTE or values not in forms.ARRAYS:
+            raise Unknown(f"the name of the constant {type} {values}")
+        own = Variable(forms.ARRAYS[values], Pointer("unsigned char", 0, 1, True), len(values))
+        return variable(self.arrays.setdefault(values, own))
 
-    def constant(self, values: tuple[int, ...]) -> Expression:
-        if values not in self.arrays:
-            name = "skh_union_fields"
-            self.arrays[values] = Variable(name, Pointer("unsigned char", 0, 1, True), len(values), is_in_memory=False)
-        return variable(self.arrays[values])
-
-    # ---- Signatures
+    # ---- Functions
 
     def printed(self, path: str, given: Given) -> Printed | None:
         """The function of C for an instance, or None if it is written out where it is called."""
-        key = json.dumps([path, repr(given)])
-        if key not in self.done:
-            self.done[key] = self.make(path, given)
-        return self.done[key]
+        if (path, given) not in self.done:
+            self.done[path, given] = self.make(path, given)
+        return self.done[path, given]
 
-    def calls_own(self, statements: list[mir.Statement]) -> bool:
+    def calls_own(self, statements: list[Statement]) -> bool:
         """Whether functions are called that are not the standard library's."""
-        for s in statements:
-            if isinstance(s, mir.Call) and s.callee[0] == "fn" and not s.callee[1].startswith("core::"):
-                return True
-            inner = [arm for _, arm in s.arms] if isinstance(s, mir.If) else [getattr(s, "body", [])]
-            if any(map(self.calls_own, inner)):
-                return True
-        return False
+        return any(s.word == "Call" and isinstance(s.of[0], str) and not s.of[0].startswith("core::")
+                   or any(map(self.calls_own, s.bodies)) for s in statements)
 
     def make(self, path: str, given: Given) -> Printed | None:
-        if WRITTEN_OUT.search(path):
-            return None
         function = self.crates.function(path)
-        numbers = [own.value for own in given.types if isinstance(own, mir.Const)]
-        if numbers and not self.calls_own(function.body):
+        numbers = [own.args[0] for own in given.types if own.word == "Const"]
+        if WRITTEN_OUT.search(path) or numbers and not self.calls_own(function.body):
             return None
-        types = [given.type(own) for own in function.locals[1:function.parameter_count + 1]]
-        source = self.sources.of(path)
+        types, source = list(map(given.type, function.parameters)), self.sources.of(path)
         if len(source.parameters) != len(types):
             raise Unknown(f"{path}: {len(types)} parameters, and {len(source.parameters)} in its text")
+        *_, owner, last = path.split("::")
         try:
-            values = [self.parameter(type, name if name != "self" else SELF[path.split("::")[-2]])
-                      for type, name in zip(types, source.parameters)]
+            names = [SELF[owner] if name == "self" else name for name in source.parameters]
+            values = list(map(self.parameter, types, names))
             result = forms.result_of(given.type(function.locals[0]), self.struct)
-        except NoForm:
+        except forms.NoForm:
             return None
         prefix, title = forms.part_of(path)
-        *_, owner, last = path.split("::")
-        widths = [str(own.bits) for own in given.types if isinstance(own, mir.Int)]
-        name = prefix + OWNERS.get(owner, "") + last + "".join(f"_{n}" for n in numbers) + "".join(widths)
+        widths = [own.bits for own in given.types if own.bits]
+        name = prefix + OWNERS.get(owner, "") + last + "".join(f"_{n}" for n in numbers) + "".join(map(str, widths))
         if name in self.by_name:
             raise Unknown(f"{path}: a second function {name}")
-        storage = {"always": "SKH_INLINE", "never": "static SKH_NOINLINE", "": "static"}[source.inline]
         parameters = [own for _, each in values for own in each]
         pointers = [own.type for own in parameters if isinstance(own.type, Pointer)]
-        printed = Printed(name, title, types, parameters, result, bool(pointers), any(not own.is_const for own in pointers),
-                          self.about(source.about, numbers), storage, source=last)
-        self.by_name[name] = printed
-        body = Body(self, path, given, values, result, False)
-        self.finish(printed, body)
-        if source.inline == "never":
-            printed.requires = requirements(source.requires)
-        printed.is_used = [own in read_in(printed.body) or own.is_in_memory and own in read_in(printed.body) for own in parameters]
-        return printed
+        effect = CHANGES if any(not own.is_const for own in pointers) else READS if pointers else NONE
+        about = source.about
+        for n in numbers:  # K is its number in this instance
+            about = [re.sub(r"\bK\b", str(n), own.replace("2 K", str(2 * n))) for own in about]
+        requires = source.requires if source.inline == "never" else ""
+        printed = Printed(name, title, types, parameters, result, effect, about, STORAGE[source.inline], last, requires)
+        return self.finish(printed, Body(self, path, given, result), values)
 
-    def parameter(self, type: mir.Type, name: str) -> tuple[Value, list[Variable]]:
-        if isinstance(type, mir.Slice):
-            pointer = forms.pointer_to(type.of, type.is_mut, True, self.struct)
-            suffix = "_length" if type.of == mir.Int(8) else "_count"
-            own = [Variable(name, pointer, is_parameter=True), Variable(name + suffix, NUMBERS[64], is_parameter=True)]
+    def parameter(self, type: Type, name: str) -> tuple[Value, list[Variable]]:
+        if type.word == "Slice":
+            own = [Variable(name, forms.pointer_to(type.of, not type.is_mut, True, self.struct)),
+                   Variable(name + ("_length" if type.of == BYTE else "_count"), NUMBERS[64])]
             return Parts(tuple(map(variable, own))), own
-        if isinstance(type, mir.Ref):
-            own = [Variable(name, forms.pointer_to(type.of, type.is_mut, False, self.struct), is_parameter=True)]
-        elif isinstance(type, mir.Int):
-            own = [Variable(name, NUMBERS[type.bits], is_parameter=True)]
-        elif type == mir.Bool():
-            own = [Variable(name, BOOL, is_parameter=True)]
-        elif isinstance(type, mir.Named):
-            own = [Variable(name, self.struct(type), is_parameter=True)]
+        if type.word == "Ref":
+            form: CType = forms.pointer_to(type.of, not type.is_mut, False, self.struct)
         else:
-            raise NoForm(type)
-        return variable(own[0]), own
+            form = NUMBERS[type.bits] if type.bits else BOOL if type == FLAG else self.struct(type)
+        one = Variable(name, form)
+        return variable(one), [one]
 
-    def about(self, text: list[str], numbers: list[int]) -> list[str]:
-        """Comments that are true of this instance: K is its number."""
-        for n in numbers:
-            text = [re.sub(r"\bK\b", str(n), own.replace("2 K", str(2 * n))) for own in text]
-        return text
+    def entry(self, path: str) -> Printed:
+        """A call of the header, which gives it its parameters."""
+        function, name = self.crates.function(path), path.split("::")[-1]
+        declared = self.declared[name]
+        names, values = iter(declared.names), []
+        for type in function.parameters:
+            text, own = next(names)
+            if type.word == "Slice":
+                pointer = forms.pointer_to(type.of, not type.is_mut, True, self.struct)
+                given = [Variable(own, CType("void *") if "void" in text else pointer), Variable(next(names)[1], SIZE)]
+                first, count = map(variable, given)
+                if pointer.size == 1 and not type.is_mut and own in ("input", "keys") and forms.OFFSET_OF_NOTHING.match(name):
+                    first = call("skh_slice", pointer, [first])
+                elif "void" in text:
+                    first = Expression("cast", pointer, (first,))
+                values.append((Parts((first, convert(count, 64))), given))
+                continue
+            value, given = self.parameter(type, own)
+            if "size_t" in text and type.word == "Ref":
+                given[0].type = Pointer("size_t", 0, 8, not type.is_mut)
+            elif "size_t" in text:
+                given[0].type = SIZE
+            value = variable(given[0])
+            values.append((value if type.word == "Ref" else convert(value, value.type.bits), given))
+        if more := list(names):
+            raise Unknown(f"{name}: more parameters in the header: {more}")
+        parameters = [own for _, each in values for own in each]
+        printed = Printed(name, "Calls", function.parameters, parameters, declared.result, CHANGES, [declared.about],
+                          "SKETCH_HASH_API", head=declared.parameters)
+        return self.finish(printed, Body(self, path, Given(), declared.result), values)
 
-    def in_c(self, text: str, printed: Printed) -> str:
-        """A comment with the names of C in place of those of the source. A function's own names are left."""
-        words = {"None": "skh_none()", "usize::MAX": "UINT64_MAX", "MAX_BYTES": "128 MiB"}
-        words |= {own.name: f"`{own.name}`" for own in printed.parameters}
-        alike = sorted(self.by_name.values(), key=lambda own: own.name[-2:] == printed.name[-2:])  # of 32 or 64 bits
-        names = {own.source: own.name for own in alike if own.source}
-
-        def name(found: re.Match[str]) -> str:
-            own = found[1]
-            return words.get(own) or f"`{names.get(own.split('::')[-1], own)}`"
-
-        return re.sub(r"`([\w:]+)`", name, text)
-
-    def finish(self, printed: Printed, body: Body) -> None:
+    def finish(self, printed: Printed, body: Body, values: Parameters) -> Printed:
+        self.by_name[printed.name] = printed
+        body.evaluate(values)
         printed.body = tidy(inline_once(without_unread(body.code)))
+        reads = reads_of(printed.body)
+        printed.is_used = [own in reads or bool(printed.head) for own in printed.parameters]
         for node in all_nodes(printed.body):
             if isinstance(node, When):
                 node.expected = self.expected(node)
-            for e in expressions_of(node):
-                for part in e.parts():
-                    if part.word == "any" or part.word == "call" and part.args[0] in {*self.with_vectors, "skh_bit"}:
-                        (self.with_vectors if printed.storage == "SKH_INLINE" else self.chosen).add(printed.name)
-                    if part.word == "call":
-                        printed.calls.append(part.args[0])
+            for part in (part for e in expressions_of(node) for part in e.parts()):
+                if part.word == "any" or part.word == "call" and part.args[0] in {*self.with_vectors, "skh_bit"}:
+                    (self.with_vectors if printed.storage == "SKH_INLINE" else self.chosen).add(printed.name)
+                if part.word == "call" and part.args[0] in self.by_name:
+                    printed.calls[part.args[0]] = None
+        return printed
 
     def expected(self, node: When) -> bool | None:
         """Errors are not expected, nor is a separate function where there is one that is not."""
-        def calls(nodes: list[Node]) -> str:
+        def called(nodes: list[Node]) -> str:
             return nodes[0].call.args[0] if len(nodes) == 1 and isinstance(nodes[0], Do) else ""
 
-        last = node.yes[-1] if node.yes else None
-        if isinstance(last, Give) and last.value is not None and last.value.word == "call" and last.value.args[0] == "skh_error":
+        last = node.yes[-1]
+        if isinstance(last, Give) and last.value is not None and last.value.args[0] == "skh_error":
             return False
-        short, other = calls(node.yes), calls(node.no)
+        other = called(node.no)
         is_separate = other in self.by_name and "NOINLINE" in self.by_name[other].storage
-        return True if short and (is_separate or len(node.no) > 2) else None
-
-    # ---- Calls of the header
-
-    def entry(self, path: str) -> Printed:
-        function = self.crates.function(path)
-        name = path.split("::")[-1]
-        declared = self.declared[name]
-        names, values = list(declared.names), []
-        types = function.locals[1:function.parameter_count + 1]
-        for type in types:
-            text, own = names.pop(0)
-            if isinstance(type, mir.Slice):
-                pointer = forms.pointer_to(type.of, type.is_mut, True, self.struct)
-                given = Variable(own, CType("void *") if "void" in text else pointer, is_parameter=True)
-                size = Variable(names.pop(0)[1], SIZE, is_parameter=True)
-                at = variable(given)
-                if pointer.size == 1 and not type.is_mut and own in ("input", "keys") and forms.OFFSET_OF_NOTHING.match(name):
-                    at = call("skh_slice", pointer, [at])
-                elif "void" in text:
-                    at = Expression("cast", pointer, (at,))
-                values.append((Parts((at, Expression("cast", NUMBERS[64], (variable(size),)))), [given, size]))
-            elif isinstance(type, mir.Ref):
-                pointer = forms.pointer_to(type.of, type.is_mut, False, self.struct)
-                if "size_t" in text:
-                    pointer = Pointer("size_t", 0, 8, not type.is_mut)
-                given = Variable(own, pointer, is_parameter=True)
-                values.append((variable(given), [given]))
-            elif text.strip() == "size_t":
-                given = Variable(own, SIZE, is_parameter=True)
-                values.append((Expression("cast", NUMBERS[64], (variable(given),)), [given]))
-            else:
-                given = Variable(own, NUMBERS[type.bits], is_parameter=True)
-                values.append((variable(given), [given]))
-        if names:
-            raise Unknown(f"{name}: more parameters in the header: {names}")
-        parameters = [own for _, each in values for own in each]
-        printed = Printed(name, "Calls", types, parameters, declared.result, True, True, [declared.about], "SKETCH_HASH_API",
-                          head=declared.parameters)
-        self.by_name[name] = printed
-        self.finish(printed, Body(self, path, Given(), values, declared.result, True))
-        return printed
+        return True if called(node.yes) and (is_separate or len(node.no) > 2) else None
 
     # ---- Text
 
     def text(self, head: str, roots: list[str]) -> str:
         entries = [self.entry(path) for path in roots]
         constants = {value: f"SKH_{name}" for name, value in self.sources.constants.items()}
-        writer = Writer(constants, self.with_vectors)
-        out, ordered, seen = [head], [], set()
-
-        def visit(printed: Printed) -> None:
-            for called in printed.calls:
-                if called in self.by_name and called not in seen:
-                    seen.add(called)
-                    visit(self.by_name[called])
-                    ordered.append(self.by_name[called])
-
-        for own in entries:
-            visit(own)
-        used = {own.result.text: own.result for own in ordered if isinstance(own.result, Struct)}
-        used |= {v.type.text: v.type for own in ordered for v in own.parameters if isinstance(v.type, Struct)}
-        out.append(self.structs(used))
+        writer, ordered = Writer(constants, self.with_vectors), list(self.in_order(entries, set()))
+        out = [head, *structs(ordered)]
         for title in forms.TITLES:
-            group = entries if title == "Calls" else [own for own in ordered if own.title == title]
-            if not group:
-                continue
-            texts = [self.function_text(own, writer) for own in group]
-            joined = "\n".join(texts)
-            defines = [f"#define {name} 0x{value:x}u" for value, name in constants.items()
-                       if re.search(rf"\b{name}\b", joined) and f"#define {name} " not in "\n".join(out)]
-            for values, own in self.arrays.items():
-                if re.search(rf"\b{own.name}\b", joined) and own.name not in "\n".join(out):
-                    defines.append(f"static const unsigned char {own.name}[] = {{{', '.join(map(str, values))}}};")
-            out += [f"/* ---- {title} */\n", *defines, *([""] if defines else []), *texts]
+            texts = [self.function_text(own, writer) for own in ordered if own.title == title]
+            lines = {name: f"#define {name} 0x{value:x}u" for value, name in constants.items()}
+            lines |= {own.name: f"static const unsigned char {own.name}[] = {{{', '.join(map(str, values))}}};"
+                      for values, own in self.arrays.items()}
+            here = set(re.findall(r"\w+", " ".join(texts)))
+            defines = [line for name, line in lines.items() if name in here and line not in out]
+            out += [f"/* ---- {title} */\n", *defines, *([""] if defines else []), *texts] if texts else []
         return "\n".join(out)
 
-    def structs(self, used: dict[str, Struct]) -> str:
-        out = []
-        for text, struct in used.items():
-            if text.startswith("struct skh_") and struct not in (forms.PAIR, forms.OPTION, forms.RESULT):
-                numbers = ", ".join(name for name, form in struct.members)
-                out.append(f"{text} {{\n    uint64_t {numbers};\n}};\n")
-        return "\n".join(out)
+    def in_order(self, functions: Iterable[Printed], seen: set[str]) -> Iterable[Printed]:
+        """Each after those that it calls."""
+        for own in functions:
+            if own.name not in seen:
+                seen.add(own.name)
+                yield from self.in_order((self.by_name[name] for name in own.calls), seen)
+                yield own
 
     def function_text(self, printed: Printed, writer: Writer) -> str:
-        name_all(printed)
+        name_all(printed.body, {own.name for own in printed.parameters})
         for node in all_nodes(printed.body):
             if isinstance(node, Comment):
                 node.text = self.in_c(node.text, printed)
-        if printed.head:
-            parameters = printed.head
-        else:
-            kept = [own for own, is_used in zip(printed.parameters, printed.is_used) if is_used]
-            parameters = ", ".join(own.type.declare(own.name) if isinstance(own.type, Pointer) else f"{own.type.text} {own.name}"
-                                   for own in kept) or "void"
-        type = printed.result.text
-        body = [*(f"SKH_REQUIRES({own});" for own in printed.requires), *writer.lines(printed.body, printed.result)]
-        about = comment([self.in_c(own, printed) for own in printed.about] if printed.source else printed.about)
-        if printed.name in self.with_vectors:
+        kept = [own for own, is_used in zip(printed.parameters, printed.is_used) if is_used]
+        parameters = printed.head or ", ".join(own.type.declare(own.name) for own in kept) or "void"
+        about = comment(printed.about if printed.head else [self.in_c(own, printed) for own in printed.about])
+        body = [*requirements(printed.requires), *writer.lines(printed.body, printed.result), "}", ""]
+        storage, type, name = printed.storage, printed.result.text, printed.name
+        if name in self.with_vectors:
             parameters = f"bool has_vectors, {parameters}"
-        if printed.name in self.chosen:
-            names = ", ".join(own.name for own, is_used in zip(printed.parameters, printed.is_used or [True] * 99) if is_used)
-            give = "" if type == "void" else "return"
-            return "\n".join([*about, f"SKH_INLINE {type} {printed.name}_any(bool has_vectors, {parameters}) {{", *body, "}", "",
-                              f"SKH_CHOOSE({printed.storage}, {type}, {give}, {printed.name}, ({parameters}), ({names}))", ""])
-        return "\n".join([*about, f"{printed.storage} {type} {printed.name}({parameters}) {{", *body, "}", ""])
+        if name not in self.chosen:
+            return "\n".join([*about, f"{storage} {type} {name}({parameters}) {{", *body])
+        names, give = ", ".join(own.name for own in kept), "return" * (printed.result != VOID)
+        return "\n".join([*about, f"SKH_INLINE {type} {name}_any(bool has_vectors, {parameters}) {{", *body,
+                          f"SKH_CHOOSE({storage}, {type}, {give}, {name}, ({parameters}), ({names}))", ""])
+
+    def in_c(self, text: str, printed: Printed) -> str:
+        """A comment with the names of C in place of those of the source. A function's own names are left."""
+        words = {"None": "skh_none()", "usize::MAX": "UINT64_MAX", "MAX_BYTES": "128 MiB"}
+        words |= {own.name: f"`{own.name}`" for own in printed.parameters}
+        alike = sorted(self.by_name.values(), key=lambda own: own.name[-2:] == printed.name[-2:])  # of 32 or 64 bits
+        names = {own.source: own.name for own in alike}
+
+        def word(found: re.Match[str]) -> str:
+            return words.get(found[1]) or f"`{names.get(found[1].split('::')[-1], found[1])}`"
+
+        return re.sub(r"`([\w:]+)`", word, text)
+
+
+def structs(functions: list[Printed]) -> list[str]:
+    """The structs that are neither in the header nor in the head of the text."""
+    types = dict.fromkeys([own.result for own in functions] + [own.type for each in functions for own in each.parameters])
+    of_head = (forms.PAIR, forms.OPTION, forms.RESULT)
+    return [f"{own.text} {{\n    uint64_t {', '.join(name for name, _ in own.members)};\n}};\n" for own in types
+            if own.text.startswith("struct skh_") and isinstance(own, Struct) and own not in of_head]
 
 
 def requirements(text: str) -> list[str]:
     """What all callers ensure of the lengths that a separate function is given."""
-    out = []
-    for low, of, of2, high in re.findall(r"\{ (?:(\d+) ≤ length (\w+)\.now|length (\w+)\.now < (\d+)) \}", text):
-        out.append(f"{of}_length >= {low}" if of else f"{of2}_length < {high}")
-    return [" && ".join(out)] if out else []
+    found = re.findall(r"\{ (?:(\d+) ≤ length (\w+)\.now|length (\w+)\.now < (\d+)) \}", text)
+    every = [f"{least}_length >= {low}" if least else f"{most}_length < {high}" for low, least, most, high in found]
+    return [f"SKH_REQUIRES({' && '.join(every)});"] if every else []
 
 
-def name_all(printed: Printed) -> None:
+def name_all(nodes: list[Node], taken: set[str]) -> None:
     """Gives each variable a name that nothing around it has."""
-    taken = {own.name for own in printed.parameters}
-
-    def walk(nodes: list[Node], taken: set[str]) -> None:
-        taken = set(taken)
-        for node in nodes:
-            first = [node.first] if isinstance(node, While) and node.first else []
-            inner = set(taken)
-            for own in [node] if isinstance(node, Declare) else first:
-                name = own.variable.name or "x"
-                if name in taken and isinstance(own.variable.type, Pointer):
-                    name += "_bytes"
-                base, count = name, 1
-                while name in taken:
-                    count += 1
-                    name = f"{base}{count}"
-                own.variable.name = name
-                (inner if first else taken).add(name)
-            for each in lists_of(node):
-                walk(each, inner | taken)
-
-    walk(printed.body, taken)
+    for node in nodes:
+        first = [node.first] if isinstance(node, While) and node.first else []
+        inner = set(taken)
+        for own in [node] if isinstance(node, Declare) else first:
+            base = own.variable.name or "x"
+            if base in taken and isinstance(own.variable.type, Pointer):
+                base += "_bytes"
+            name = next(name for count in range(1, 99) if (name := f"{base}{count if count > 1 else ''}") not in taken)
+            own.variable.name = name
+            (inner if first else taken).add(name)
+        for each in lists_of(node):
+            name_all(each, inner | taken)

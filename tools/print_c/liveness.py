@@ -1,13 +1,13 @@
 """How often each local is read after a statement, before it is set again: never, once, or several times."""
 from __future__ import annotations
 
-from mir import Assign, Block, Call, Exit, Function, If, Lend, Loop, Operand, Place, Return, Statement
+from mir import Function, Operand, Place, Statement
 
 Counts = dict[int, int]
 SEVERAL = 2
 
 
-def added(counts: Counts, operands: list[Operand]) -> Counts:
+def added(counts: Counts, operands: tuple[Operand, ...]) -> Counts:
     out = dict(counts)
     for operand in operands:
         if isinstance(operand, Place):
@@ -15,7 +15,7 @@ def added(counts: Counts, operands: list[Operand]) -> Counts:
     return out
 
 
-def most(*several: Counts) -> Counts:
+def most(several: list[Counts]) -> Counts:
     """Of the ways that go on here, the one that reads a local most often."""
     return {local: max(counts.get(local, 0) for counts in several) for local in set().union(*several)}
 
@@ -32,26 +32,23 @@ def mark(function: Function) -> None:
     def before(statement: Statement, after: Counts, around: list[Counts]) -> Counts:
         """What is read from this statement on. `around` is what is read behind each block and loop around it."""
         statement.after = {**after, **always}
-        if isinstance(statement, Return):
+        if statement.word == "Return":
             return {0: 1}
-        if isinstance(statement, Exit):
-            return around[-1 - statement.depth]
-        if isinstance(statement, If):
-            return added(most(*(before_all(arm, after, around) for _, arm in statement.arms)), [statement.operand])
-        if isinstance(statement, Block):
-            return before_all(statement.body, after, [*around, after])
-        if isinstance(statement, Loop):
+        if statement.word == "Exit":
+            return around[-1 - statement.of]
+        if statement.word == "If":
+            after = most([before_all(body, after, around) for body in statement.bodies])
+        elif statement.word == "Block":
+            return before_all(statement.bodies[0], after, [*around, after])
+        elif statement.word == "Loop":
             head: Counts = {}
-            while True:
-                more = most(head, before_all(statement.body, head, [*around, after]))
-                if more == head:
-                    return head
+            while (more := most([head, before_all(statement.bodies[0], head, [*around, after])])) != head:
                 head = more
-        assert isinstance(statement, (Assign, Call, Lend))
-        if statement.place.steps:
-            after = added(after, [statement.place])
+            return head
+        elif statement.place.steps:
+            after = added(after, (statement.place,))
         else:
             after = {local: count for local, count in after.items() if local != statement.place.local}
-        return added(after, [] if isinstance(statement, Lend) else statement.operands)
+        return added(after, statement.operands)
 
     function.entry = before_all(function.body, {}, [])

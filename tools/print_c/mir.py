@@ -1,92 +1,64 @@
 """Reads mir.json, the compiler's structured form of a crate, of which the kit has no page.
 
-Each class is a word of the format, with what it is taken to mean. Any other word stops the printer by its name.
+The docs of the classes say what each word of the format is taken to mean. Any other word stops the printer by its name.
 """
 from __future__ import annotations
 
 import json
 import pathlib
 from dataclasses import dataclass, field
-from typing import Any, Iterator
+from typing import Any, Iterator, NamedTuple
 
 
 class Unknown(Exception):
     """What the printer does not know. It prints nothing then."""
 
 
-# ---- Types
+WIDTHS = (8, 16, 32, 64, 128)
+
 
 @dataclass(frozen=True)
 class Type:
-    pass
+    """A word, and what belongs to it.
+
+    Bool, Unit, Ptr (to what is not said), Int BITS (whether it has a sign is a matter of the operation),
+    Ref IS_MUT TYPE, Slice IS_MUT TYPE (field 0 is a reference to the first element, field 1 the number of elements),
+    Array TYPE COUNT, Vector TYPE COUNT, Named NAME ARGUMENTS (a struct, a tuple or an enum, whose field 0 is its tag; those of
+    a variant begin with 1), Param INDEX (of a generic function), Const NUMBER (its argument)
+    """
+
+    word: str
+    args: tuple = ()
+
+    @property
+    def bits(self) -> int:
+        """Of a number; 0 for all else."""
+        return self.args[0] if self.word == "Int" else 0
+
+    @property
+    def is_mut(self) -> bool:
+        return self.args[0]
+
+    @property
+    def of(self) -> Type:
+        return self.args[0] if self.word in ("Array", "Vector") else self.args[1]
+
+    @property
+    def count(self) -> int:
+        return number_of(self.args[1])
+
+    @property
+    def name(self) -> str:
+        return self.args[0] if self.word == "Named" else ""
 
 
-@dataclass(frozen=True)
-class Int(Type):
-    """A number of so many bits. Whether it has a sign is a matter of the operation."""
-
-    bits: int
+BOOL, UNIT, BYTE, WORD = Type("Bool"), Type("Unit"), Type("Int", (8,)), Type("Int", (64,))
 
 
-@dataclass(frozen=True)
-class Bool(Type):
-    pass
-
-
-@dataclass(frozen=True)
-class Unit(Type):
-    pass
-
-
-@dataclass(frozen=True)
-class Address(Type):
-    """A pointer of which the type does not say what it points to."""
-
-
-@dataclass(frozen=True)
-class Ref(Type):
-    is_mut: bool
-    of: Type
-
-
-@dataclass(frozen=True)
-class Slice(Type):
-    """Field 0 is a reference to the first element, field 1 the number of elements."""
-
-    is_mut: bool
-    of: Type
-
-
-@dataclass(frozen=True)
-class Array(Type):
-    of: Type
-    count: int | Type
-
-
-@dataclass(frozen=True)
-class Vector(Type):
-    bits: int | Type
-    lanes: int | Type
-
-
-@dataclass(frozen=True)
-class Named(Type):
-    """A struct, a tuple or an enum. Field 0 of an enum is its tag, and those of a variant begin with 1."""
-
-    name: str
-    args: tuple[Type, ...]
-
-
-@dataclass(frozen=True)
-class Param(Type):
-    index: int
-
-
-@dataclass(frozen=True)
-class Const(Type):
-    """A number as an argument of a generic function."""
-
-    value: int
+def number_of(type: Type) -> int:
+    if type.word != "Const":
+        raise Unknown(f"{type} in place of a number")
+    return type.args[0]
 
 
 def word_of(token: Any) -> tuple[str, Any]:
@@ -98,49 +70,33 @@ def word_of(token: Any) -> tuple[str, Any]:
     raise Unknown(f"a token of mir.json: {str(token)[:80]}")
 
 
+def read_all(read: Any, tokens: list[Any]) -> tuple[Any, ...]:
+    return tuple(map(read, tokens))
+
+
 def read_type(token: Any) -> Type:
     word, of = word_of(token)
-    plain = {"Bool": Bool, "Unit": Unit, "Ptr": Address}
-    if word in plain:
-        return plain[word]()
-    if word == "Int":
-        return Int(of)
-    if word == "Ref":
-        return Ref(is_mut(of[1]), read_type(of[2]))
+    if word in ("Bool", "Unit", "Ptr"):
+        return Type(word)
+    if word == "Int" and of in WIDTHS or word == "Param":
+        return Type(word, (of,))
+    if word == "Ref" and of[1] in ("Mut", "Imm"):
+        return Type(word, (of[1] == "Mut", read_type(of[2])))
     if word == "Struct" and of[0] == "&[]":
-        first = read_type(of[1][0])
-        assert isinstance(first, Ref) and read_type(of[1][1]) == Int(64)
-        return Slice(first.is_mut, first.of)
-    if word == "Array":
-        return Array(read_type(of[0]), read_count(of[1]))
-    if word == "Vector":
-        lane = read_type(of[0])
-        return Vector(lane.bits if isinstance(lane, Int) else lane, read_count(of[1]))
+        first, count = map(read_type, of[1])
+        if first.word == "Ref" and count == WORD:
+            return Type("Slice", first.args)
+    if word in ("Array", "Vector"):
+        return Type(word, (read_type(of[0]), read_type(of[1])))
     if word == "Named":
-        return Named(of[0]["name"], tuple(map(read_type, of[1])))
-    if word == "Param":
-        return Param(of)
-    if word == "Const":
-        return Const(of)
-    raise Unknown(f"type {word}")
+        return Type(word, (of[0]["name"], read_all(read_type, of[1])))
+    if word in ("Const", "Lit"):
+        return Type("Const", (of,))
+    raise Unknown(f"type {word} {str(of)[:80]}")
 
 
-def is_mut(word: str) -> bool:
-    return {"Mut": True, "Imm": False}[word]
-
-
-def read_count(token: Any) -> int | Type:
-    word, of = word_of(token)
-    if word in ("Lit", "Const"):
-        return of
-    if word == "Param":
-        return Param(of)
-    raise Unknown(f"the length of an array as {word}")
-
-
-@dataclass(frozen=True)
-class Dict:
-    """An implementation of a trait, as an argument: one of a crate, or one that the caller was given."""
+class Dict(NamedTuple):
+    """An implementation of a trait, as an argument: one of a crate, or by its index one that the caller was given."""
 
     name: str | int
     types: tuple[Type, ...] = ()
@@ -150,113 +106,67 @@ class Dict:
 def read_dict(token: Any) -> Dict:
     word, of = word_of(token)
     if word == "Impl":
-        return Dict(of[0], tuple(map(read_type, of[1])), tuple(map(read_dict, of[2])))
+        return Dict(of[0], read_all(read_type, of[1]), read_all(read_dict, of[2]))
     if word == "Given" and isinstance(of, int):
         return Dict(of)
     raise Unknown(f"an implementation as {word}")
 
 
-@dataclass(frozen=True)
-class Given:
+class Given(NamedTuple):
     """The arguments of an instance of a generic function."""
 
     types: tuple[Type, ...] = ()
     dicts: tuple[Dict, ...] = ()
 
-    def type(self, type: Any) -> Any:
-        """The type with the arguments in place of the parameters."""
-        if isinstance(type, Param):
-            return self.types[type.index]
-        if isinstance(type, Ref):
-            return Ref(type.is_mut, self.type(type.of))
-        if isinstance(type, Slice):
-            return Slice(type.is_mut, self.type(type.of))
-        if isinstance(type, Array):
-            return Array(self.type(type.of), self.number(type.count))
-        if isinstance(type, Vector):
-            lane = self.type(type.bits)
-            return Vector(lane.bits if isinstance(lane, Int) else lane, self.number(type.lanes))
-        if isinstance(type, Named):
-            return Named(type.name, tuple(map(self.type, type.args)))
-        return type
-
-    def number(self, count: Any) -> Any:
-        """The number that an argument is."""
-        own = self.type(count)
-        return own.value if isinstance(own, Const) else own
+    def type(self, own: Any) -> Any:
+        """A type, or a part of one, with the arguments in place of the parameters."""
+        if isinstance(own, tuple):
+            return tuple(map(self.type, own))
+        if not isinstance(own, Type):
+            return own
+        return self.types[own.args[0]] if own.word == "Param" else Type(own.word, self.type(own.args))
 
     def dict(self, own: Dict) -> Dict:
         if isinstance(own.name, int):
             return self.dicts[own.name]
-        return Dict(own.name, tuple(map(self.type, own.types)), tuple(map(self.dict, own.dicts)))
+        return Dict(own.name, self.type(own.types), tuple(map(self.dict, own.dicts)))
+
+    def inside(self, of: Given) -> Given:
+        """The arguments of a call inside of this instance."""
+        return Given(self.type(of.types), tuple(map(self.dict, of.dicts)))
 
 
-# ---- Places and operands
+class Step(NamedTuple):
+    """Field INDEX, Variant INDEX, or Deref TYPE: what a pointer points to."""
 
-@dataclass(frozen=True)
-class Field:
-    index: int
-
-
-@dataclass(frozen=True)
-class Deref:
-    type: Type
+    word: str
+    of: Any
 
 
-@dataclass(frozen=True)
-class Variant:
-    index: int
-
-
-@dataclass(frozen=True)
-class Place:
+class Place(NamedTuple):
     """A local, and steps from it."""
 
     local: int
-    steps: tuple[Field | Deref | Variant, ...]
+    steps: tuple[Step, ...]
 
 
-@dataclass(frozen=True)
-class Number:
+class Constant(NamedTuple):
+    """Int NUMBER, NumOf TYPE (the number that an argument is), SizeOf TYPE; a flag has one bit; Unit has none."""
+
+    word: str
     bits: int
-    value: int
+    of: Any
 
 
-@dataclass(frozen=True)
-class NumberOf:
-    """A number that is an argument of the generic function."""
-
-    bits: int
-    type: Type
-
-
-@dataclass(frozen=True)
-class SizeOf:
-    type: Type
-
-
-@dataclass(frozen=True)
-class Flag:
-    value: bool
-
-
-@dataclass(frozen=True)
-class Nothing:
-    """The value of the type Unit."""
-
-
-Operand = Place | Number | NumberOf | SizeOf | Flag | Nothing
+Operand = Place | Constant
 
 
 def read_place(token: Any) -> Place:
     steps = []
     for word, of in map(word_of, token["steps"]):
-        if word == "Deref":
-            steps.append(Deref(read_type(of)))
-        elif word in ("Field", "Variant"):
-            steps.append((Field if word == "Field" else Variant)(of))
-        else:
+        if word not in ("Deref", "Field", "Variant"):
             raise Unknown(f"a step of a place: {word}")
+        steps.append(Step(word, read_type(of) if word == "Deref" else of))
     return Place(token["local"], tuple(steps))
 
 
@@ -264,112 +174,58 @@ def read_operand(token: Any) -> Operand:
     word, of = word_of(token)
     if word == "Copy":
         return read_place(of)
-    if word == "Int":
-        return Number(of["width"], of["value"])
-    if word == "NumOf":
-        return NumberOf(of[0], read_type(of[1]))
+    if word == "Int" and of["width"] in WIDTHS:
+        return Constant(word, of["width"], of["value"])
+    if word == "NumOf" and of[0] in WIDTHS:
+        return Constant(word, of[0], read_type(of[1]))
     if word == "SizeOf":
-        return SizeOf(read_type(of))
+        return Constant(word, 64, read_type(of))
     if word in ("True", "False"):
-        return Flag(word == "True")
+        return Constant("Int", 1, int(word == "True"))
     if word == "Unit":
-        return Nothing()
-    raise Unknown(f"operand {word}")
+        return Constant(word, 0, None)
+    raise Unknown(f"operand {word} {str(of)[:80]}")
 
-
-# ---- Statements
 
 @dataclass(eq=False)
 class Statement:
-    """`after`: how often locals are read later, by liveness.py."""
+    """A word, and what belongs to it.
 
-    after: dict[int, int] = field(default_factory=dict, init=False)
+    Opd, Aggregate, Repeat, AddrOf, Op1, Op2, Vec1, Vec2: `place` gets what the operation `of` makes of the operands.
+    Call: `of` is the function's path, or an implementation and the index of its method, and the arguments.
+    LendStatic: `place` points to constant numbers, of which `of` has the type and the values.
+    If: a body for each list of values of the operand in `of`. The last one needs no test.
+    Block, Loop: a body, which the loop repeats. Exit: leaves the one that is `of` others further out. Return: returns local 0.
+    """
 
-
-@dataclass(eq=False)
-class Assign(Statement):
-    """`right` is a word of the format, and what belongs to it: operation, operands."""
-
-    place: Place
     word: str
-    operation: Any
-    operands: list[Operand]
+    of: Any = None
+    operands: tuple[Operand, ...] = ()
+    place: Place | None = None
+    bodies: tuple[list[Statement], ...] = ()
+    after: dict[int, int] = field(default_factory=dict)  # how often locals are read later, by liveness.py
 
 
-@dataclass(eq=False)
-class Call(Statement):
-    callee: tuple[Any, ...]  # ("fn", path, Given) or ("method", Dict, index, Given)
-    operands: list[Operand]
-    place: Place
-
-
-@dataclass(eq=False)
-class Lend(Statement):
-    """Points a local to constant numbers."""
-
-    place: Place
-    type: Type
-    values: tuple[int, ...]
-
-
-@dataclass(eq=False)
-class If(Statement):
-    """One arm for each list of values of the operand. The last one needs no test."""
-
-    operand: Operand
-    arms: list[tuple[list[int], list[Statement]]]
-
-
-@dataclass(eq=False)
-class Block(Statement):
-    body: list[Statement]
-
-
-@dataclass(eq=False)
-class Loop(Statement):
-    """Repeats its body until an Exit or a Return leaves it."""
-
-    body: list[Statement]
-
-
-@dataclass(eq=False)
-class Exit(Statement):
-    """Leaves the block or the loop that is `depth` others further out."""
-
-    depth: int
-
-
-@dataclass(eq=False)
-class Return(Statement):
-    """Local 0 is what is returned."""
-
-
-OPERANDS = {"Opd": 0, "Aggregate": 0, "Repeat": 0, "AddrOf": 0, "Op1": 1, "Op2": 1, "Vec1": 1, "Vec2": 1}
-
-
-def read_assign(of: Any) -> Assign:
-    place, (word, right) = read_place(of[0]), word_of(of[1])
+def read_assign(place: Place, token: Any) -> Statement:
+    word, of = word_of(token)
     if word in ("Op1", "Op2", "Vec1", "Vec2"):
-        return Assign(place, word, right[0], list(map(read_operand, right[1:])))
-    if word == "Opd":
-        return Assign(place, word, None, [read_operand(right)])
+        return Statement(word, of[0], read_all(read_operand, of[1:]), place)
     if word == "Aggregate":
-        return Assign(place, word, None, list(map(read_operand, right)))
+        return Statement(word, None, read_all(read_operand, of), place)
     if word == "Repeat":
-        return Assign(place, word, read_count(right[1]), [read_operand(right[0])])
-    if word == "AddrOf":
-        return Assign(place, word, None, [read_place(right)])
+        return Statement(word, read_type(of[1]), (read_operand(of[0]),), place)
+    if word in ("Opd", "AddrOf"):
+        return Statement(word, None, ((read_operand if word == "Opd" else read_place)(of),), place)
     raise Unknown(f"right side {word}")
 
 
-def read_call(of: Any) -> Call:
-    (word, callee), operands, place = word_of(of[0]), list(map(read_operand, of[1])), read_place(of[2])
-    args = callee[-1]
-    given = Given(tuple(map(read_type, args["types"])), tuple(map(read_dict, args["dicts"])))
+def read_callee(token: Any) -> tuple[Any, Given]:
+    word, of = word_of(token)
+    given = Given(read_all(read_type, of[-1]["types"]), read_all(read_dict, of[-1]["dicts"]))
     if word == "Fn":
-        return Call(("fn", callee[0], given), operands, place)
+        return of[0], given
     if word == "Method":
-        return Call(("method", read_dict(callee[0]), callee[1], given), operands, place)
+        return (read_dict(of[0]), of[1]), given
     raise Unknown(f"a call of {word}")
 
 
@@ -381,33 +237,21 @@ def read_statements(tokens: Iterator[Any]) -> list[Statement]:
     if word == "Skip":
         return []
     if word in ("Block", "Loop"):
-        return [(Block if word == "Block" else Loop)(read_statements(tokens))]
-    if word == "If":
-        yes, no = read_statements(tokens), read_statements(tokens)
-        return [If(read_operand(of), [([1], yes), ([0], no)])]
-    if word == "Switch":
-        operand, values, has_default = of
-        arms = [(own, read_statements(tokens)) for own in values]
-        if has_default:
-            arms.append(([], read_statements(tokens)))
-        return [If(read_operand(operand), arms)]
+        return [Statement(word, bodies=(read_statements(tokens),))]
+    if word in ("If", "Switch"):
+        operand, values, has_default = (of, [[1], [0]], False) if word == "If" else of
+        values = values + [[]] * has_default
+        return [Statement("If", values, (read_operand(operand),), bodies=tuple(read_statements(tokens) for _ in values))]
     if word == "Assign":
-        return [read_assign(of)]
+        return [read_assign(read_place(of[0]), of[1])]
     if word == "Call":
-        return [read_call(of)]
-    if word == "LendStatic":
-        kind, ints = word_of(of[2])
-        if kind != "Ints":
-            raise Unknown(f"a constant of {kind}")
-        return [Lend(read_place(of[0]), read_type(of[1]), tuple(ints["values"]))]
-    if word == "Exit":
-        return [Exit(of)]
-    if word == "Return":
-        return [Return()]
-    raise Unknown(f"statement {word}")
+        return [Statement(word, read_callee(of[0]), read_all(read_operand, of[1]), read_place(of[2]))]
+    if word == "LendStatic" and word_of(of[2])[0] == "Ints":
+        return [Statement(word, (read_type(of[1]), tuple(of[2]["Ints"]["values"])), (), read_place(of[0]))]
+    if word in ("Exit", "Return"):
+        return [Statement(word, of)]
+    raise Unknown(f"statement {word} {str(of)[:80]}")
 
-
-# ---- Functions and crates
 
 @dataclass(eq=False)
 class Function:
@@ -416,7 +260,11 @@ class Function:
     locals: list[Type]
     has_address: list[bool]  # of each local: whether its address is taken
     body: list[Statement]
-    entry: dict[int, int] | None = None  # how often locals are read, by liveness.py
+    entry: dict[int, int] = field(default_factory=dict)  # how often locals are read, by liveness.py
+
+    @property
+    def parameters(self) -> list[Type]:
+        return self.locals[1:self.parameter_count + 1]
 
 
 def read_function(path: str, token: Any) -> Function:
@@ -434,41 +282,46 @@ def read_function(path: str, token: Any) -> Function:
 class Crates:
     """The functions of several crates, and what else the format has of them: shapes of types, methods of traits."""
 
-    def __init__(self, folders: list[pathlib.Path]):
-        self.tokens: dict[str, Any] = {}
-        for folder in folders:
-            for path, token in json.loads((folder / "toolchain/mir.json").read_text()):
-                self.tokens[path] = token
+    def __init__(self, functions: list[tuple[str, Any]]):
+        self.tokens = dict(functions)
         self.read: dict[str, Function] = {}
         self.shapes: dict[str, Any] = {}
         self.methods: dict[tuple[str, int], str] = {}
-        for path, token in self.tokens.items():
+        for path, token in functions:
             of = token["generics"]["method_of"]
             if of and "Impl" in of and not path.endswith("+decl"):
                 self.methods[tuple(of["Impl"])] = path
-            for own in token["types"]:
-                self.shapes[own["name"]] = own["shape"]
+            self.shapes |= {own["name"]: own["shape"] for own in token["types"]}
 
     def function(self, path: str) -> Function:
+        if path not in self.tokens:
+            raise Unknown(f"function {path}, which no crate has")
         if path not in self.read:
-            if path not in self.tokens:
-                raise Unknown(f"function {path}, which no crate has")
             self.read[path] = read_function(path, self.tokens[path])
         return self.read[path]
 
-    def method(self, own: Dict, index: int) -> str:
-        if (own.name, index) not in self.methods:
-            raise Unknown(f"method {index} of {own.name}")
-        return self.methods[own.name, index]
+    def resolve(self, call: Statement, given: Given) -> tuple[str, Given]:
+        """The path of what is called inside of an instance, and its arguments."""
+        callee, more = call.of[0], given.inside(call.of[1])
+        if isinstance(callee, str):
+            return callee, more
+        own = given.dict(callee[0])
+        if (own.name, callee[1]) not in self.methods:
+            raise Unknown(f"method {callee[1]} of {own.name}")
+        return self.methods[own.name, callee[1]], Given(own.types + more.types, own.dicts + more.dicts)
 
-    def shape(self, type: Named) -> tuple[str, list[Any]]:
+    def shape(self, type: Type) -> tuple[str, list[Any]]:
         """Fields and their types, or Variants and the types of the fields of each."""
         if type.name not in self.shapes:
-            raise Unknown(f"the shape of {type.name}")
+            raise Unknown(f"the shape of {type.name or type}")
         word, of = word_of(self.shapes[type.name])
-        given = Given(type.args)
+        given = Given(type.args[1])
         if word == "Fields":
             return word, [given.type(read_type(own)) for own in of]
         if word == "Variants":
-            return word, [[given.type(read_type(own)) for own in fields] for fields in of]
+            return word, [[given.type(read_type(own)) for own in each] for each in of]
         raise Unknown(f"{type.name} has {word}")
+
+
+def read_crates(folders: list[pathlib.Path]) -> Crates:
+    return Crates([own for folder in folders for own in json.loads((folder / "toolchain/mir.json").read_text())])

@@ -2,14 +2,14 @@
 from __future__ import annotations
 
 from dataclasses import dataclass
-from typing import Iterator
+from typing import Callable, Iterator
 
-from expression import Expression, Variable, negate, value_of, variable
+from expression import CHANGES, Expression, Variable, negate, value_of, variable
 
 
 @dataclass(eq=False)
 class Node:
-    pass
+    """A statement."""
 
 
 @dataclass(eq=False)
@@ -53,7 +53,7 @@ class While(Node):
 
 @dataclass(eq=False)
 class Break(Node):
-    pass
+    """Leaves the loop."""
 
 
 @dataclass(eq=False)
@@ -81,18 +81,28 @@ def all_nodes(nodes: list[Node]) -> Iterator[Node]:
             yield from filter(None, (node.first, node.step))
 
 
+def size(nodes: list[Node]) -> int:
+    return sum(1 for _ in all_nodes(nodes))
+
+
+def change(node: Node, new: Callable[[Expression], Expression]) -> None:
+    """Changes what a statement reads. A variable that is set is not read."""
+    if isinstance(node, Declare) and isinstance(node.value, list):
+        node.value = list(map(new, node.value))
+    elif isinstance(node, (Declare, Set, Give)) and node.value is not None:
+        node.value = new(node.value)
+    if isinstance(node, Set) and node.place.word != "variable":
+        node.place = node.place.changed(new)
+    elif isinstance(node, Do):
+        node.call = new(node.call)
+    elif isinstance(node, (When, While)) and node.condition is not None:
+        node.condition = new(node.condition)
+
+
 def expressions_of(node: Node) -> list[Expression]:
-    """Those that are read. The variable that is set is not."""
-    if isinstance(node, Declare):
-        return node.value if isinstance(node.value, list) else [] if node.value is None else [node.value]
-    if isinstance(node, Set):
-        place = node.place
-        return [node.value] + ([] if place.word == "variable" else [arg for arg in place.args if isinstance(arg, Expression)])
-    if isinstance(node, Do):
-        return [node.call]
-    if isinstance(node, (When, While)):
-        return [] if node.condition is None else [node.condition]
-    return [node.value] if isinstance(node, Give) and node.value is not None else []
+    found: list[Expression] = []
+    change(node, lambda e: found.append(e) or e)
+    return found
 
 
 def ends(nodes: list[Node]) -> bool:
@@ -101,65 +111,62 @@ def ends(nodes: list[Node]) -> bool:
     return isinstance(last, (Give, Break)) or isinstance(last, When) and ends(last.yes) and ends(last.no)
 
 
-def read_in(nodes: list[Node]) -> set[Variable]:
-    return {own for node in all_nodes(nodes) for e in expressions_of(node) for own in e.variables()}
-
-
-def without_unread(nodes: list[Node]) -> list[Node]:
-    """Without variables that nobody reads, whose values have no effect."""
-    while True:
-        read = read_in(nodes)
-        gone = [0]
-
-        def keep(inner: list[Node]) -> list[Node]:
-            out = []
-            for node in inner:
-                own = node.variable if isinstance(node, Declare) else \
-                    node.place.args[0] if isinstance(node, Set) and node.place.word == "variable" else None
-                if own is not None and own not in read and not own.is_in_memory:
-                    gone[0] += 1
-                    continue
-                if isinstance(node, When):
-                    node.yes, node.no = keep(node.yes), keep(node.no)
-                    if not node.yes and not node.no:
-                        continue
-                elif isinstance(node, While):
-                    node.body = keep(node.body)
-                out.append(node)
-            return out
-
-        nodes = keep(nodes)
-        if not gone[0]:
-            return nodes
-
-
-def with_value(e: Expression, own: Expression, value: Expression) -> Expression:
-    if e == own:
-        return value
-    if not any(isinstance(arg, Expression) for arg in e.args):
-        return e
-    return Expression(e.word, e.type, tuple(with_value(arg, own, value) if isinstance(arg, Expression) else arg for arg in e.args))
-
-
-def inline_once(nodes: list[Node]) -> list[Node]:
-    """A value without a name that only the next statement reads, once, is written there."""
+def reads_of(nodes: list[Node]) -> dict[Variable, int]:
+    """How often variables are read."""
     reads: dict[Variable, int] = {}
     for node in all_nodes(nodes):
         for e in expressions_of(node):
             for part in e.parts():
                 if part.word in ("variable", "address"):
                     reads[part.args[0]] = reads.get(part.args[0], 0) + 1
+    return reads
+
+
+def without_unread(nodes: list[Node]) -> list[Node]:
+    """Without variables that nobody reads, and conditions on which nothing depends. A call that has an effect is kept."""
+    while True:
+        reads, count = reads_of(nodes), size(nodes)
+
+        def keep(inner: list[Node]) -> list[Node]:
+            out: list[Node] = []
+            for node in inner:
+                own = node.variable if isinstance(node, Declare) else \
+                    node.place.args[0] if isinstance(node, Set) and node.place.word == "variable" else None
+                if own is not None and own not in reads and not own.is_in_memory:
+                    out += [Do(e) for e in expressions_of(node) if e.effect() == CHANGES]
+                    continue
+                for each in lists_of(node):
+                    each[:] = keep(each)
+                if not isinstance(node, When) or node.yes or node.no:
+                    out.append(node)
+            return out
+
+        nodes = keep(nodes)
+        if size(nodes) == count:
+            return nodes
+
+
+def inline_once(nodes: list[Node]) -> list[Node]:
+    """A value without a name that only the next statement reads, once, is written there."""
+    reads = reads_of(nodes)
+
+    def may_be_in(node: Declare, following: Node | None) -> bool:
+        own = variable(node.variable)
+        if following is None or isinstance(following, While) or not isinstance(node.value, Expression):
+            return False
+        if not node.variable.is_temporary or node.variable.is_set or reads.get(node.variable, 0) != 1:
+            return False
+        if node.value.effect() == CHANGES:  # nothing else is computed there, before it or after it
+            return own in expressions_of(following) and len(expressions_of(following)) == 1
+        return any(own in e.parts() for e in expressions_of(following))
 
     def walk(inner: list[Node]) -> list[Node]:
         out: list[Node] = []
         for i, node in enumerate(inner):
             following = next((own for own in inner[i + 1:] if not isinstance(own, Comment)), None)
-            if isinstance(node, Declare) and node.variable.is_temporary and isinstance(node.value, Expression) \
-                    and reads.get(node.variable, 0) == 1 and not node.variable.is_set and following is not None:
-                own = variable(node.variable)
-                if any(own in e.parts() for e in expressions_of(following)) and not isinstance(following, While):
-                    replace(following, own, node.value)
-                    continue
+            if isinstance(node, Declare) and may_be_in(node, following):
+                change(following, lambda e: e.replaced(variable(node.variable), node.value))
+                continue
             for each in lists_of(node):
                 each[:] = walk(each)
             out.append(node)
@@ -168,71 +175,59 @@ def inline_once(nodes: list[Node]) -> list[Node]:
     return walk(nodes)
 
 
-def replace(node: Node, own: Expression, value: Expression) -> None:
-    if isinstance(node, Declare):
-        node.value = [with_value(e, own, value) for e in node.value] if isinstance(node.value, list) else \
-            with_value(node.value, own, value)
-    elif isinstance(node, Set):
-        node.place, node.value = with_value(node.place, own, value), with_value(node.value, own, value)
-    elif isinstance(node, Do):
-        node.call = with_value(node.call, own, value)
-    elif isinstance(node, When):
-        node.condition = with_value(node.condition, own, value)
-    elif isinstance(node, Give):
-        node.value = with_value(node.value, own, value)
+def arranged(node: When, is_last: bool) -> When:
+    """The arm that leaves is the first, without `!` if there is a choice. A condition in a condition is one by &&."""
+    condition, yes, no = node.condition, tidy(node.yes, is_last), tidy(node.no, is_last)
+    if not yes or ends(no) and not ends(yes) or ends(no) and ends(yes) and size(no) < size(yes):
+        condition, yes, no = negate(condition), no, yes
+    if ends(yes) and ends(no) and condition.word == "!" and size(no) == size(yes):
+        condition, yes, no = negate(condition), no, yes
+    inner = yes[0] if len(yes) == 1 else None
+    if not no and isinstance(inner, When) and not inner.no:
+        condition, yes = Expression("&&", condition.type, (condition, inner.condition)), inner.yes
+    return When(condition, yes, no)
 
 
 def tidy(nodes: list[Node], is_last: bool = True) -> list[Node]:
     """Arms that leave take what follows out of the other arm; loops get their conditions and counters."""
     out: list[Node] = []
     nodes = list(nodes)
-    while nodes:
+    while nodes and not ends(out):
         node = nodes.pop(0)
-        follows = bool(nodes) or not is_last
         if isinstance(node, When):
-            yes, no = tidy(node.yes, is_last and not nodes), tidy(node.no, is_last and not nodes)
-            condition, expected = node.condition, node.expected
-            if not yes or ends(no) and not ends(yes) or ends(no) and ends(yes) and weight(no) < weight(yes):
-                condition, yes, no = negate(condition), no, yes
-                expected = None if expected is None else not expected
-            if ends(yes) and ends(no) and condition.word == "!" and weight(no) == weight(yes):
-                condition, yes, no = negate(condition), no, yes
-            if len(yes) == 1 and not no and isinstance(yes[0], When) and not yes[0].no:
-                condition, yes = Expression("&&", condition.type, (condition, yes[0].condition)), yes[0].yes
+            node = arranged(node, is_last and not nodes)
             before = out[-1] if out else None
-            if isinstance(before, When) and not before.no and not no and len(yes) == len(before.yes) == 1 and ends(yes) \
-                    and isinstance(yes[0], Give) and isinstance(before.yes[0], Give) and yes[0].value == before.yes[0].value:
-                before.condition = Expression("||", condition.type, (before.condition, condition))
+            if isinstance(before, When) and not before.no and not node.no and gives(before.yes) == gives(node.yes) != []:
+                before.condition = Expression("||", node.condition.type, (before.condition, node.condition))
                 continue
-            if ends(yes) and no:
-                out.append(When(condition, yes, [], expected))
-                nodes = no + nodes
-            else:
-                out.append(When(condition, yes, no, expected))
-            if ends(out):
-                break
-            continue
-        if isinstance(node, While) and node.condition is None:
-            node = loop(While(None, tidy(node.body, False), None, None))
+            if ends(node.yes):
+                node.no, nodes = [], node.no + nodes
+        elif isinstance(node, While) and node.condition is None:
+            node = loop(While(None, tidy(node.body, False)))
             counter = node.body[-1] if node.body and node.condition is not None else None
-            first = next((own for own in reversed(out) if isinstance(own, Declare) and isinstance(counter, Set)
-                          and counter.place == variable(own.variable)), None)
-            if first and counts(counter) and not used_between(out, first) and first.variable not in read_in(nodes):
-                out.remove(first)
-                node = While(node.condition, node.body[:-1], first, counter)
+            if isinstance(counter, Set) and is_count(counter.place, counter.value):
+                first = next((own for own in out if isinstance(own, Declare) and counter.place == variable(own.variable)), None)
+                if first and first.variable not in reads_of(out[out.index(first) + 1:] + nodes):
+                    out.remove(first)
+                    node = While(node.condition, node.body[:-1], first, counter)
         out.append(node)
-        if ends([node]):
-            break
-    if len(out) > 1 and isinstance(out[-1], Give) and isinstance(out[-2], Declare) and isinstance(out[-2].value, Expression) \
-            and out[-1].value == variable(out[-2].variable):
-        out[-2:] = [Give(out[-2].value)]
-    if is_last and out and isinstance(out[-1], Give) and out[-1].value is None:
+    last, before = out[-1] if out else None, out[-2] if len(out) > 1 else None
+    if isinstance(last, Give) and isinstance(before, Declare) and last.value == variable(before.variable) \
+            and isinstance(before.value, Expression):
+        out[-2:] = [Give(before.value)]
+    if is_last and isinstance(last, Give) and last.value is None:
         out.pop()
     return out
 
 
-def weight(nodes: list[Node]) -> int:
-    return sum(1 for _ in all_nodes(nodes))
+def gives(nodes: list[Node]) -> list[Expression | None]:
+    """What is returned where nothing else is done."""
+    return [node.value for node in nodes if isinstance(node, Give) and len(nodes) == 1]
+
+
+def is_count(place: Expression, value: Expression) -> bool:
+    """i + 1"""
+    return value.word == "+" and value.args[0] == place and value_of(value.args[1]) == 1
 
 
 def loop(node: While) -> While:
@@ -240,15 +235,4 @@ def loop(node: While) -> While:
     head = node.body[0] if node.body else None
     if isinstance(head, When) and not head.no and len(head.yes) == 1 and isinstance(head.yes[0], Break):
         return While(negate(head.condition), node.body[1:])
-    if isinstance(head, When) and len(node.body) == 1 and len(head.no) == 1 and isinstance(head.no[0], Break):
-        return While(head.condition, head.yes)
     return node
-
-
-def counts(node: Set) -> bool:
-    """i = i + 1"""
-    return node.value.word == "+" and node.value.args[0] == node.place and value_of(node.value.args[1]) == 1
-
-
-def used_between(out: list[Node], first: Declare) -> bool:
-    return first.variable in read_in(out[out.index(first) + 1:])

@@ -1,13 +1,15 @@
 """What locals hold while a body is evaluated, and what is known at a place of it."""
 from __future__ import annotations
 
-from dataclasses import dataclass
+from dataclasses import dataclass, field, replace
 from typing import Callable, Iterator
 
 from expression import Expression, Variable, negate, value_of, variable
+from mir import Unknown
 from statement import Node
 
 Key = tuple[int, int]  # a frame and a local of it
+Path = tuple[int, ...]  # the fields that lead to a part
 
 
 @dataclass(frozen=True)
@@ -25,16 +27,13 @@ class Choice:
     fields: tuple[tuple[int, tuple[Value, ...]], ...]
     whole: Expression | None = None
 
-    def of(self, variant: int) -> tuple[Value, ...]:
-        return dict(self.fields)[variant]
-
 
 @dataclass(frozen=True)
 class ToLocal:
     """The address of a local, or of a part of it."""
 
     key: Key
-    path: tuple[int, ...] = ()
+    path: Path = ()
 
 
 @dataclass(frozen=True)
@@ -68,31 +67,6 @@ Value = Expression | Parts | Choice | ToLocal | Bytes | Spelled | InMemory | Und
 UNIT = Parts(())
 
 
-def leaves(value: Value) -> Iterator[Expression]:
-    if isinstance(value, Expression):
-        yield value
-    elif isinstance(value, Parts):
-        for part in value.parts:
-            yield from leaves(part)
-    elif isinstance(value, Choice):
-        yield value.tag
-        if value.whole:
-            yield value.whole
-        for _, fields in value.fields:
-            for part in fields:
-                yield from leaves(part)
-    elif isinstance(value, Bytes):
-        yield value.pointer
-    elif isinstance(value, Spelled):
-        yield value.number
-    elif isinstance(value, InMemory):
-        yield variable(value.variable)
-
-
-def reads_memory(value: Value) -> bool:
-    return isinstance(value, Bytes) or not isinstance(value, InMemory) and any(e.reads_memory() for e in leaves(value))
-
-
 def changed(value: Value, change: Callable[[Expression], Expression]) -> Value:
     """The value with each expression changed."""
     if isinstance(value, Expression):
@@ -100,19 +74,50 @@ def changed(value: Value, change: Callable[[Expression], Expression]) -> Value:
     if isinstance(value, Parts):
         return Parts(tuple(changed(part, change) for part in value.parts))
     if isinstance(value, Choice):
-        return Choice(change(value.tag), tuple((at, tuple(changed(part, change) for part in fields))
-                                               for at, fields in value.fields), value.whole and change(value.whole))
+        fields = tuple((at, tuple(changed(part, change) for part in each)) for at, each in value.fields)
+        return Choice(change(value.tag), fields, value.whole and change(value.whole))
     if isinstance(value, Bytes):
         return Bytes(change(value.pointer), value.count)
     return Spelled(change(value.number)) if isinstance(value, Spelled) else value
 
 
-def replaced(e: Expression, old: Expression, new: Expression) -> Expression:
-    if e == old:
+def leaves(value: Value) -> Iterator[Expression]:
+    """The expressions of a value."""
+    found: list[Expression] = [variable(value.variable)] if isinstance(value, InMemory) else []
+    changed(value, lambda e: found.append(e) or e)
+    return iter(found)
+
+
+def expression_of(value: Value) -> Expression:
+    if isinstance(value, InMemory):
+        return variable(value.variable)
+    if not isinstance(value, Expression):
+        raise Unknown(f"{value} in place of a number")
+    return value
+
+
+def parts_of(value: Value) -> tuple[Value, ...]:
+    if not isinstance(value, Parts):
+        raise Unknown(f"the parts of {value}")
+    return value.parts
+
+
+def put(value: Value, path: Path, new: Value) -> Value:
+    """A value with another part."""
+    if not path:
         return new
-    if not any(isinstance(arg, Expression) for arg in e.args):
-        return e
-    return Expression(e.word, e.type, tuple(replaced(arg, old, new) if isinstance(arg, Expression) else arg for arg in e.args))
+    return Parts(tuple(put(part, path[1:], new) if i == path[0] else part for i, part in enumerate(parts_of(value))))
+
+
+def differences(a: Value, b: Value, path: Path = ()) -> list[Path]:
+    """The paths to the numbers in which two values of one shape differ."""
+    if a == b:
+        return []
+    if isinstance(a, Parts) and isinstance(b, Parts) and len(a.parts) == len(b.parts):
+        return [found for i, (x, y) in enumerate(zip(a.parts, b.parts)) for found in differences(x, y, (*path, i))]
+    if isinstance(a, Expression) and isinstance(b, Expression):
+        return [path]
+    raise Unknown(f"a loop that changes {a} to {b}")
 
 
 def weight(e: Expression) -> int:
@@ -128,29 +133,32 @@ def weight(e: Expression) -> int:
 
 def is_step(e: Expression) -> bool:
     """A variable and a constant number after or before it."""
-    return e.word in ("at", "+", "-", "cast") and (e.word != "cast" or e.type.bits > 0) and e.args[0].word == "variable" and all(arg.word == "number" for arg in e.args[1:])
+    is_one = e.word in ("at", "+", "-") or e.word == "cast" and e.type.bits > 0
+    return is_one and e.args[0].word == "variable" and all(arg.word == "number" for arg in e.args[1:])
 
 
 END, RETURN = "end", "return"
 
 
+@dataclass(eq=False)
 class Leaf:
     """A place where evaluation stands: what locals hold, what is known, where statements go, where it leads to.
 
     `target` is END, RETURN, or the number of blocks and loops that an exit still has to leave.
     """
 
-    def __init__(self, env: dict[Key, Value], facts: dict[Expression, bool], code: list[Node], scope: dict[str, Variable],
-                 target: str | int = END):
-        self.env, self.facts, self.code, self.scope, self.target = env, facts, code, scope, target
-        self.owned: dict[Key, Value] = {}  # the variables of locals that are set several times
-        self.pointers: list[tuple[Expression, Expression]] = []  # variables, and the pointers that they hold
+    env: dict[Key, Value]
+    code: list[Node]
+    scope: dict[str, Variable]
+    facts: dict[Expression, bool] = field(default_factory=dict)
+    target: str | int = END
+    owned: dict[Key, Value] = field(default_factory=dict)  # the variables of locals that are set several times
+    pointers: list[tuple[Expression, Expression]] = field(default_factory=list)  # variables, and the pointers that they hold
 
     def at(self, code: list[Node], env: dict[Key, Value] | None = None) -> Leaf:
         """The same elsewhere in the text."""
-        leaf = Leaf(dict(self.env if env is None else env), dict(self.facts), code, dict(self.scope), self.target)
-        leaf.owned, leaf.pointers = dict(self.owned), list(self.pointers)
-        return leaf
+        return replace(self, env=dict(self.env if env is None else env), code=code, scope=dict(self.scope),
+                       facts=dict(self.facts), owned=dict(self.owned), pointers=list(self.pointers))
 
     def branch(self, condition: Expression, holds: bool, code: list[Node]) -> Leaf:
         leaf = self.at(code)
@@ -165,8 +173,18 @@ class Leaf:
         other = negate(condition)
         return not self.facts[other] if other in self.facts else None
 
-    def variables(self, but: Key | None = None) -> set[Variable]:
-        return {own for key, value in self.env.items() if key != but for e in leaves(value) for own in e.variables()}
+    def change(self, change: Callable[[Expression], Expression]) -> None:
+        self.env = {key: changed(value, change) for key, value in self.env.items()}
+
+    def expressions(self) -> Iterator[Expression]:
+        """Those that the locals hold."""
+        return (e for value in self.env.values() for e in leaves(value))
+
+    def variables(self) -> set[Variable]:
+        return {own for e in self.expressions() for own in e.variables()}
 
     def forget(self, is_stale: Callable[[Expression], bool]) -> None:
         self.facts = {fact: holds for fact, holds in self.facts.items() if not is_stale(fact)}
+
+    def put(self, key: Key, path: Path, value: Value) -> None:
+        self.env[key] = put(self.env[key], path, value)

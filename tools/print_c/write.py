@@ -1,24 +1,38 @@
 """The text of expressions and statements.
 
-C computes with numbers below the width of `int` as `int`, and `size_t` may be narrower than 64 bits. Every cast that follows from this
-is made here, from the types of the expressions.
+C computes with numbers below the width of `int` as `int`, and `size_t` may be narrower than 64 bits. Every cast that follows
+from this is made here, from the types of the expressions.
 """
 from __future__ import annotations
 
 import textwrap
 from typing import Iterator
 
-from expression import BOOL, INT, NUMBERS, CType, Expression, Pointer, Struct, Variable, base_and_offset, divide, number, value_of
+from expression import (BOOL, INT, NUMBERS, CType, Expression, Pointer, Struct, base_and_offset, convert, divide, number,
+                        value_of)
+from forms import STATUSES
 from mir import Unknown
 from statement import Break, Comment, Declare, Do, Give, Node, Set, When, While
 
 WIDTH = 100
-LEVELS = {"||": 1, "&&": 2, "|": 3, "^": 4, "&": 5, "==": 6, "!=": 6, "<": 7, "<=": 7, ">": 7, ">=": 7, "<<": 8, ">>": 8, "+": 9,
-          "-": 9, "*": 10, "/": 10, "%": 10}
+ROWS = ("", "||", "&&", "|", "^", "&", "== !=", "< <= > >=", "<< >>", "+ -", "* / %")
+LEVELS = {word: level for level, words in enumerate(ROWS) for word in words.split()}
 TERNARY, UNARY, POSTFIX = 0, 11, 12
-BITS = {"|", "^", "&", "<<", ">>"}  # inside of which all that is not alike is set in brackets
-WIDE = {"+": "add", "*": "mul", "<<": "left", ">>": "right", "&": "and"}
+BITS = {"|", "^", "&", "<<", ">>"}  # beside which all other operators are set in brackets
+WIDE = {"+": "add", "*": "mul", "<<": "left", ">>": "right"}
 COMPARISONS = {"==", "!=", "<", "<=", ">", ">="}
+COLUMN_READS, COLUMN_WRITES = {4: "skh_get32", 8: "skh_get64"}, {8: "skh_set64"}  # by the size of an element
+
+
+def named(names: dict[int, str], size: int) -> str:
+    if size not in names:
+        raise Unknown(f"a column of {size} bytes an element")
+    return names[size]
+
+
+def is_int(e: Expression) -> bool:
+    """Whether the text of a number is an `int`, since constants decide its type."""
+    return e.word == "number" or e.word == "?" and is_int(e.args[1]) and is_int(e.args[2])
 
 
 class Writer:
@@ -30,7 +44,7 @@ class Writer:
             return self.constants[value]
         if bits == 64 and value == 2 ** 64 - 1:
             return "UINT64_MAX"
-        if value >= 2 ** 31 and value & (value - 1) == 0:
+        if bits == 64 and value >= 2 ** 31 and value & (value - 1) == 0:
             return f"(uint64_t)1 << {value.bit_length() - 1}"
         return str(value) if value < 1000000 else f"0x{value:x}u"
 
@@ -39,11 +53,11 @@ class Writer:
         return f"({own})" if its_level < level else own
 
     def text_and_level(self, e: Expression) -> tuple[str, int]:
+        if e.word == "number" and e.type == BOOL:
+            return str(bool(e.args[0])).lower(), POSTFIX
+        if e.word == "number" and e.type.bits == 128:
+            return f"skh_wide({self.number(e.args[0] >> 64, 64)}, {self.number(e.args[0] % 2 ** 64, 64)})", POSTFIX
         if e.word == "number":
-            if e.type == BOOL:
-                return str(bool(e.args[0])).lower(), POSTFIX
-            if e.type.bits == 128:
-                return f"skh_wide({self.number(e.args[0] >> 64, 64)}, {self.number(e.args[0] % 2 ** 64, 64)})", POSTFIX
             text = self.number(*e.args, e.type.bits)
             return text, LEVELS["<<"] if "<<" in text else POSTFIX
         if e.word == "variable":
@@ -58,115 +72,92 @@ class Writer:
             return self.element(e.args[0])
         if e.word == "member":
             base, name = e.args
-            arrow = "->" if isinstance(base.type, Pointer) else "."
-            if base.word == "address":
-                return f"{base.args[0].name}.{name}", POSTFIX
-            return f"{self.text(base, POSTFIX)}{arrow}{name}", POSTFIX
-        if e.word == "deref":
-            if e.args[0].word == "address":
-                return e.args[0].args[0].name, POSTFIX
-            return f"*{self.text(e.args[0], UNARY)}", UNARY
+            return f"{self.text(base, POSTFIX)}{'->' if isinstance(base.type, Pointer) else '.'}{name}", POSTFIX
         if e.word == "call":
-            return self.call(e)
+            name, _, *args = e.args
+            first = ["has_vectors"] * (name in self.with_vectors or name == "skh_bit")
+            return f"{name}({', '.join(first + [self.assigned(arg, arg.type) for arg in args])})", POSTFIX
         if e.word == "cast":
             return self.cast(e)
-        if e.word == "!":
-            return f"!{self.text(e.args[0], UNARY)}", UNARY
-        if e.word == "~":
-            if e.type.bits < 32:
-                return f"({e.type.text})~{self.text(e.args[0], UNARY)}", UNARY
-            return f"~{self.text(e.args[0], UNARY)}", UNARY
+        if e.word == "~" and e.type.bits < 32:
+            return f"({e.type.text})~{self.text(e.args[0], UNARY)}", UNARY
+        if e.word in ("!", "~"):
+            return f"{e.word}{self.text(e.args[0], UNARY)}", UNARY
+        if e.word == "deref":
+            return f"*{self.text(e.args[0], UNARY)}", UNARY
         if e.word == "?":
-            return f"{self.text(e.args[0], 1)} ? {self.text(e.args[1], 1)} : {self.text(e.args[2], 0)}", TERNARY
+            return f"{self.text(e.args[0], 1)} ? {self.text(e.args[1], 1)} : {self.text(e.args[2])}", TERNARY
         if e.word in LEVELS:
             return self.binary(e)
         raise Unknown(f"the text of {e.word}")
 
     def pointer(self, e: Expression) -> tuple[str, int]:
-        base, offset = base_and_offset(e)
-        type = base.type
-        assert isinstance(type, Pointer)
-        if type.inner:
-            rest = type.size // type.inner
-            row, column = offset, number(0, 64)
-            if offset.word == "+" and value_of(offset.args[1]) is not None and value_of(offset.args[1]) < type.size:
-                row, column = offset.args
-            elif value_of(offset) is not None and value_of(offset) < type.size:
-                row, column = number(0, 64), offset
-            text = f"{self.text(base, POSTFIX)}[{self.text(divide(row, type.size))}]"
-            return (f"{text} + {self.text(divide(column, rest))}", LEVELS["+"]) if value_of(column) else (text, POSTFIX)
-        return self.sum(base, divide(offset, type.size))
+        base, offset = e.args
+        if not base.type.inner:
+            return self.sum(base, divide(offset, base.type.size))
+        row, column = offset, number(0, 64)  # of an array of rows
+        if offset.word == "+" and value_of(offset.args[1]) is not None and value_of(offset.args[1]) < base.type.size:
+            row, column = offset.args
+        text = f"{self.text(base, POSTFIX)}[{self.text(divide(row, base.type.size))}]"
+        place = self.text(divide(column, base.type.size // base.type.inner))
+        return (f"{text} + {place}", LEVELS["+"]) if value_of(column) else (text, POSTFIX)
 
     def sum(self, base: Expression, offset: Expression) -> tuple[str, int]:
         """base + offset, without brackets around a sum or a difference."""
-        if offset.word in ("+", "-") and offset.type.bits == 64:
+        if offset.word in ("+", "-"):
             first, _ = self.sum(base, offset.args[0])
             return f"{first} {offset.word} {self.text(offset.args[1], LEVELS['*'])}", LEVELS["+"]
         return f"{self.text(base, LEVELS['+'])} + {self.text(offset, LEVELS['+'] + 1)}", LEVELS["+"]
 
     def element(self, pointer: Expression) -> tuple[str, int]:
         base, offset = base_and_offset(pointer)
-        assert isinstance(pointer.type, Pointer)
         size = pointer.type.size // (pointer.type.inner or 1)
-        if pointer.type.is_column and size > 1:
-            return f"skh_get{8 * size}({self.text(pointer)})", POSTFIX
-        index = divide(offset, size)
-        if value_of(index) == 0 and not pointer.type.is_array and not base.word == "member" and size > 1:
+        if pointer.type.is_column:
+            return f"{named(COLUMN_READS, size)}({self.text(pointer)})", POSTFIX
+        if value_of(offset) == 0 and not pointer.type.is_array and base.word != "member" and size > 1:
             return f"*{self.text(base, UNARY)}", UNARY
-        return f"{self.text(base, POSTFIX)}[{self.text(index)}]", POSTFIX
-
-    def call(self, e: Expression) -> tuple[str, int]:
-        name, _, *args = e.args
-        texts = [self.assigned(arg, arg.type) for arg in args]
-        if name in self.with_vectors or name == "skh_bit":
-            texts.insert(0, "has_vectors")
-        return f"{name}({', '.join(texts)})", POSTFIX
+        return f"{self.text(base, POSTFIX)}[{self.text(divide(offset, size))}]", POSTFIX
 
     def cast(self, e: Expression) -> tuple[str, int]:
         of, bits = e.args[0], e.type.bits
         if isinstance(e.type, Pointer):
             return f"({e.type.declare('')}){self.text(of, UNARY)}", UNARY
-        if e.type == INT:
-            return self.text_and_level(of)
         if bits == 128:
             return f"skh_wide(0, {self.text(of)})", POSTFIX
+        if of.type.bits == 128 and bits != 64:
+            return self.cast(convert(convert(of, 64), bits))
         if of.type.bits == 128:
-            if bits != 64:
-                raise Unknown(f"a cast of 128 to {bits} bits")
             if of.word == ">>" and value_of(of.args[1]) == 64:
                 return f"skh_wide_high({self.text(of.args[0])})", POSTFIX
             return f"skh_wide_low({self.text(of)})", POSTFIX
         return f"({e.type.text}){self.text(of, UNARY)}", UNARY
 
     def binary(self, e: Expression) -> tuple[str, int]:
-        a, b = e.args
-        word, level = e.word, LEVELS[e.word]
-        if a.type.bits == 128 and word not in ("||", "&&"):
+        (a, b), word, level = e.args, e.word, LEVELS[e.word]
+        if a.type.bits == 128:
             return self.wide(word, a, b)
         if a.word == "any":
             if word not in ("==", "!=") or value_of(b) != 0:
-                raise Unknown("a comparison of a vector's bits")
+                raise Unknown(f"{word} of a vector's bits")
             text = f"skh_any({', '.join(['has_vectors', *map(self.text, a.args)])})"
             return (f"!{text}", UNARY) if word == "==" else (text, POSTFIX)
         if word in COMPARISONS:  # a `size_t` is widened by itself
             a, b = (own.args[0] if own.word == "cast" and own.args[0].type.text == "size_t" else own for own in (a, b))
-        inner = level if word not in BITS else level if a.word == word else LEVELS["+"] + 1 if word in ("<<", ">>") else UNARY
-        left = self.text(a, UNARY if word in BITS and a.word in LEVELS and a.word != word and a.word != "<<" else min(inner, level if a.word == word else inner))
-        right_level = UNARY if word in BITS and b.word in LEVELS else level + 1
-        if word in ("||", "&&", "+", "*") and b.word == word:
-            right_level = level
-        if word == "||" and a.word == "&&":
-            left = f"({left})" if not left.startswith("(") else left
+        right_level = UNARY if word in BITS else level if word in ("||", "&&", "+", "*") and b.word == word else level + 1
+        left_level = UNARY if word in BITS else level
+        if word == "||":  # brackets around &&, without which compilers warn
+            left_level = LEVELS["|"] if a.word == "&&" else left_level
+            right_level = LEVELS["|"] if b.word == "&&" else right_level
         if word in ("<<", ">>") and b.word == "cast" and b.args[0].type.bits < 64:
             b = b.args[0]
-        right = self.text(b, right_level)
-        is_small = a.word == "number" and (word in ("<<", ">>") or b.word == "number")
-        if is_small and word not in COMPARISONS:  # an `int` otherwise
-            left = f"({a.type.text}){left}"
-        text = f"{left} {word} {right}"
+        left, right = self.text(a, left_level), self.text(b, right_level)
+        if word not in COMPARISONS and is_int(a) and (word in ("<<", ">>") or is_int(b)) and a.type != BOOL:
+            left = f"({a.type.text}){self.text(a, UNARY)}"
+        elif e.type.bits == 16 and word in ("*", "<<"):  # more than an `int` holds
+            left = f"(uint32_t){self.text(a, UNARY)}"
         if e.type.bits in (8, 16):
-            return f"({e.type.text})({text})", UNARY
-        return text, level
+            return f"({e.type.text})({left} {word} {right})", UNARY
+        return f"{left} {word} {right}", level
 
     def wide(self, word: str, a: Expression, b: Expression) -> tuple[str, int]:
         """Numbers of 128 bits, which not each compiler has."""
@@ -178,9 +169,7 @@ class Writer:
             return f"skh_wide_high({self.text(a.args[0])}) {word} 0", LEVELS[word]
         if word not in WIDE:
             raise Unknown(f"{word} of 128 bits")
-        if word in ("<<", ">>"):
-            from expression import convert
-            b = convert(b, 64)
+        b = convert(b, 64) if word in ("<<", ">>") else b
         return f"skh_wide_{WIDE[word]}({self.text(a)}, {self.text(b)})", POSTFIX
 
     # ---- Statements
@@ -213,8 +202,7 @@ class Writer:
             yield "}"
         elif isinstance(node, While):
             if node.first and node.step:
-                first, step = self.declaration(node.first), self.setting(node.step)[:-1]
-                yield f"for ({first} {self.text(node.condition)}; {step}) {{"
+                yield f"for ({self.declaration(node.first)} {self.text(node.condition)}; {self.setting(node.step)[:-1]}) {{"
             else:
                 yield f"while ({self.text(node.condition)}) {{" if node.condition is not None else "for (;;) {"
             yield from self.lines(node.body, result, depth + 1)
@@ -234,13 +222,12 @@ class Writer:
 
     def assigned(self, e: Expression, type: CType) -> str:
         """A value in a place of a type: where C would cut it, it is cut by a cast."""
-        while e.word == "cast" and not isinstance(e.type, Pointer) and e.args[0].type.bits <= e.type.bits <= type.bits \
-                and e.args[0].type.bits not in (0, 128) and e.type.bits != 128:
+        while e.word == "cast" and 0 < e.args[0].type.bits <= e.type.bits <= min(type.bits, 64):
             e = e.args[0]  # C widens by itself
-        if type.text == "size_t" and e.type.bits == 64 and e.type.text != "size_t" and e.word != "number":
-            return f"(size_t){self.text(e, UNARY)}"
         if type.text == "size_t" and value_of(e) == 2 ** 64 - 1:
             return "SIZE_MAX"
+        if type.text == "size_t" and e.type.text == "uint64_t" and e.word != "number":
+            return f"(size_t){self.text(e, UNARY)}"
         if type == INT and e.word == "number":
             return self.status(e.args[0])
         if type.bits in (8, 16) and e.type == BOOL:
@@ -249,65 +236,50 @@ class Writer:
 
     @staticmethod
     def status(value: int) -> str:
-        from forms import STATUSES
         signed = value - 2 ** 32 if value >= 2 ** 31 else value
-        if signed == 1:
-            return "1"
         if signed not in STATUSES:
             raise Unknown(f"status {signed}")
         return STATUSES[signed]
 
     def declaration(self, node: Declare) -> str:
         own, value = node.variable, node.value
+        const, type = "" if own.is_set else "const ", own.type
         if own.count:
-            assert isinstance(own.type, Pointer)
-            const = "" if own.is_set else "const "
-            text = f"{const}{own.type.text} {own.name}[{own.count}]"
-            if value is None:
-                return f"{text};"
-            assert isinstance(value, list)
-            element = NUMBERS[8 * own.type.size]
-            return f"{text} = {{{', '.join(self.assigned(each, element) for each in value)}}};"
-        const = "" if own.is_set else "const "
-        if isinstance(own.type, Pointer):
-            text = own.type.declare(f"{const}{own.name}" if const else own.name)
+            text, forms = f"{const}{type.text} {own.name}[{own.count}]", [NUMBERS[8 * type.size]] * own.count
+        elif isinstance(type, Pointer):
+            text, forms = type.declare(f"{const}{own.name}"), []
         else:
-            text = f"{const}{own.type.text} {own.name}"
+            text = f"{const}{type.text} {own.name}"
+            forms = [form for _, form in type.members] if isinstance(type, Struct) else []
         if value is None:
             return f"{text};"
         if isinstance(value, list):
-            members = own.type.members if isinstance(own.type, Struct) else ()
-            return f"{text} = {{{', '.join(self.assigned(each, form) for each, (_, form) in zip(value, members, strict=True))}}};"
-        return f"{text} = {self.assigned(value, own.type)};"
+            return f"{text} = {{{', '.join(self.assigned(each, form) for each, form in zip(value, forms))}}};"
+        return f"{text} = {self.assigned(value, type)};"
 
     def setting(self, node: Set) -> str:
         place, value = node.place, node.value
+        type = place.type
         if place.word == "element":
             pointer = place.args[0]
-            size = pointer.type.size // (pointer.type.inner or 1)
-            if pointer.type.is_column and size > 1:
-                return f"skh_set{8 * size}({self.text(pointer)}, {self.text(value)});"
+            if pointer.type.is_column:
+                name = named(COLUMN_WRITES, pointer.type.size // (pointer.type.inner or 1))
+                return f"{name}({self.text(pointer)}, {self.text(value)});"
+            type = CType("size_t", 64) if pointer.type.text == "size_t" else type
         text = self.text(place)
-        if place.word == "element" and place.args[0].type.text == "size_t":
-            return f"{text} = {self.assigned(value, CType('size_t', 64))};"
-        if value.word in ("+", "-", "*", "/", "%", "|", "&", "^", "<<", ">>") and value.args[0] == place and value.type.bits in (32, 64):
-            if value.word == "+" and value_of(value.args[1]) == 1:
-                return f"{text}++;"
-            if value.word == "-" and value_of(value.args[1]) == 1:
-                return f"{text}--;"
+        if value.word in ("+", "-") and value.args[0] == place and value_of(value.args[1]) == 1 and type.bits in (32, 64):
+            return f"{text}{value.word * 2};"
+        if value.word in LEVELS and value.args[0] == place and (type.bits in (32, 64) or value.word == "|"):
             return f"{text} {value.word}= {self.text(value.args[1])};"
-        if value.word == "|" and value.args[0] == place:
-            return f"{text} |= {self.text(value.args[1])};"
         if value.word == "at" and value.args[0] == place:
-            pointer = place.type
-            assert isinstance(pointer, Pointer)
-            return f"{text} += {self.text(divide(value.args[1], pointer.size))};"
-        return f"{text} = {self.assigned(value, place.type)};"
+            return f"{text} += {self.text(divide(value.args[1], place.type.size))};"
+        return f"{text} = {self.assigned(value, type)};"
 
 
 def comment(paragraphs: list[str], width: int = WIDTH) -> list[str]:
     lines: list[str] = []
     for own in paragraphs:
-        lines += ([" *"] if lines else []) + textwrap.wrap(own, width - 3, initial_indent=" * " if lines else "/* ",
-                                                          subsequent_indent=" * ", break_long_words=False, break_on_hyphens=False)
+        first = " * " if lines else "/* "
+        lines += [" *"] * bool(lines) + textwrap.wrap(own, width - 3, initial_indent=first, subsequent_indent=" * ",
+                                                      break_long_words=False, break_on_hyphens=False)
     return [*lines[:-1], lines[-1] + " */"] if lines else []

@@ -1,0 +1,149 @@
+"""Calls: of functions that are printed, of those that are written out where they are called, and what is returned."""
+from __future__ import annotations
+
+from typing import TYPE_CHECKING
+
+import forms
+import liveness
+from choices import Choices
+from expression import CHANGES, VOID, Expression, Struct, Variable, call, number, value_of, variable
+from frames import Frame
+from mir import Given, Place, Statement, Type, Unknown
+from statement import Do, Give
+from values import (END, RETURN, UNIT, Bytes, Choice, InMemory, Key, Leaf, Parts, Spelled, ToLocal, Value, expression_of,
+                    parts_of)
+
+if TYPE_CHECKING:
+    from library import Printed
+
+
+class Calls(Choices):
+    def frame(self, path: str, given: Given, tail: bool, caller_keys: set[Key]) -> Frame:
+        if len(self.frames) > 2000:
+            raise Unknown(f"{self.path}: too many calls to be written out")
+        function = self.crates.function(path)
+        if not function.entry:
+            liveness.mark(function)
+        self.frames.append(Frame(len(self.frames) + 1, function, given, self.library.sources.of(path), tail, caller_keys))
+        return self.frames[-1]
+
+    def call(self, frame: Frame, s: Statement, leaf: Leaf, tail: bool) -> list[Leaf]:
+        path, given = self.crates.resolve(s, frame.given)
+        args, value = [self.operand(frame, own, leaf) for own in s.operands], UNIT
+        if path in forms.NUMBER_CALLS:
+            value = forms.NUMBER_CALLS[path](*map(expression_of, args))
+        elif path in forms.FROM_BYTES:
+            if not isinstance(args[0], Bytes):
+                raise Unknown(f"{self.path}: a number of {args[0]}")
+            value = forms.load(args[0].pointer, forms.FROM_BYTES[path])
+        elif path in forms.TO_BYTES:
+            value = Spelled(expression_of(args[0]))
+        elif path == forms.COPY:
+            self.copy_slice(parts_of(args[0]), parts_of(args[1]), leaf)
+        elif not path.endswith("Destruct++none::drop"):
+            printed = self.library.printed(path, given)
+            if printed is None:
+                return self.write_out(frame, s, path, given, args, leaf, tail)
+            value = self.call_printed(frame, s, printed, args, leaf)
+        self.assign(frame, s, value, leaf)
+        return [leaf]
+
+    def copy_slice(self, place: tuple[Value, ...], origin: tuple[Value, ...], leaf: Leaf) -> None:
+        to, count = place[0], value_of(place[1])
+        if count is None:
+            raise Unknown(f"{self.path}: a copy of unknown length")
+        if isinstance(to, ToLocal) and not isinstance(leaf.env.get(to.key), InMemory) and not to.path:
+            leaf.env[to.key] = Bytes(self.pointer(origin[0], leaf), count)
+        else:
+            self.do("memcpy", [self.pointer(to, leaf), self.pointer(origin[0], leaf), number(count, 64)], leaf)
+
+    def write_out(self, frame: Frame, s: Statement, path: str, given: Given, args: list[Value], leaf: Leaf,
+                  tail: bool) -> list[Leaf]:
+        """Evaluates the called function here."""
+        keys = {(frame.number, local) for local in s.after} | frame.caller_keys
+        keys |= {key for arg in args for key in keys_in(arg)}
+        inner = self.frame(path, given, tail, keys)
+        leaf.env = {key: value for key, value in leaf.env.items() if key in keys}
+        for local, (arg, operand) in enumerate(zip(args, s.operands), 1):
+            here = frame.name(operand.local) if isinstance(operand, Place) and not operand.steps else ""
+            if here and path in forms.CUTS:
+                inner.names[local] = here
+            elif here:
+                inner.hints.setdefault(local, here)
+            if isinstance(arg, Expression) and arg.word == "call" and arg.args[0] in self.library.by_name:
+                arg = self.variable_for(arg, inner.name(local), leaf)  # it is called before the function
+            self.define(inner, local, arg, leaf, inner.function.entry.get(local, 0))
+        code, out = leaf.code, self.run(inner, inner.function.body, leaf, False)
+        result = (inner.number, 0)
+        for own in out:
+            if own.target != RETURN:
+                raise Unknown(f"{path}: it ends without a return")
+            own.target = END
+            own.env.setdefault(result, UNIT)
+            own.env = {key: each for key, each in own.env.items() if key[0] != inner.number or key == result}
+        if len(out) > 1 and not tail:
+            one = self.join(inner, out, code)
+            out = [one] if one else out
+        for own in out:
+            self.assign(frame, s, own.env.pop(result), own)
+        return out
+
+    def call_printed(self, frame: Frame, s: Statement, printed: Printed, args: list[Value], leaf: Leaf) -> Value:
+        """A call of a function of C. One that changes memory is a statement."""
+        flat = [own for arg, type in zip(args, printed.types, strict=True) for own in self.arguments(arg, type, leaf)]
+        flat = [own for own, is_used in zip(flat, printed.is_used, strict=True) if is_used]
+        e = call(printed.name, printed.result, flat, printed.effect)
+        if printed.effect == CHANGES:
+            self.keep(leaf)
+        if printed.result == VOID:
+            leaf.code.append(Do(e))
+            return UNIT
+        is_opened = printed.result in (forms.PAIR, forms.OPTION, forms.RESULT)
+        if printed.effect == CHANGES or is_opened:
+            name = "" if s.place.steps else frame.name(s.place.local)
+            self.prune(frame, s, leaf)
+            e = self.variable_for(e, name or forms.local_name(printed.result.text), leaf, True)
+        if not is_opened:
+            return e
+        first, value = (Expression("member", form, (e, name)) for name, form in e.type.members)
+        if e.type == forms.PAIR:
+            return Parts((first, value))
+        return Choice(first, ((0, () if e.type == forms.OPTION else (value,)), (1, (value,))), e)
+
+    def arguments(self, value: Value, type: Type, leaf: Leaf) -> list[Expression]:
+        if type.word == "Slice":
+            pointer, count = parts_of(value)
+            return [self.pointer(pointer, leaf), expression_of(count)]
+        return [self.pointer(value, leaf) if type.word == "Ref" else expression_of(value)]
+
+    # ---- Results
+
+    def give(self, value: Value, leaf: Leaf) -> None:
+        leaf.code.append(Give(None if self.result == VOID else self.given_value(value, leaf)))
+
+    def given_value(self, value: Value, leaf: Leaf) -> Expression:
+        if self.result == forms.PAIR and isinstance(value, Parts):
+            a, b = map(expression_of, value.parts)
+            if a.word == b.word == "member" and a.args[0] == b.args[0] and (a.args[1], b.args[1]) == ("first", "second"):
+                return a.args[0]
+            return call("skh_pair_of", forms.PAIR, [a, b])
+        if isinstance(value, Choice) and self.result in (forms.OPTION, forms.RESULT):
+            tag = value_of(value.tag)
+            if tag not in (0, 1):
+                raise Unknown(f"{self.path}: an enum that is returned, whose tag is {value.tag.word}")
+            fields = [own for own in dict(value.fields)[tag] if isinstance(own, Expression)]
+            if self.result == forms.OPTION:
+                return call("skh_some" if tag else "skh_none", forms.OPTION, fields)
+            return call("skh_error" if tag else "skh_ok", forms.RESULT, fields or [number(0, 64)])
+        if isinstance(self.result, Struct) and isinstance(value, Parts):
+            own = Variable(forms.local_name(self.result.text), self.result)
+            self.declare_struct(own, value, leaf)
+            return variable(own)
+        return expression_of(value)
+
+
+def keys_in(value: Value) -> set[Key]:
+    """The locals to which a value points."""
+    if isinstance(value, Parts):
+        return {key for part in value.parts for key in keys_in(part)}
+    return {value.key} if isinstance(value, ToLocal) else set()

@@ -1,0 +1,196 @@
+"""Conditions, where ways part and meet, and loops."""
+from __future__ import annotations
+
+from expression import BOOL, Expression, Variable, choose, has_value, value_of, variable
+from frames import Frame
+from memory import Memory
+from mir import Statement, Unknown
+from statement import Break, Comment, Declare, Node, When, While, all_nodes
+from values import END, Key, Leaf, Parts, Path, Undefined, Value, differences, expression_of
+
+Arm = tuple[list[int], list[Statement]]  # the values that lead to it, and what it does
+Merges = list[tuple[Variable, Key, list[Expression]]]  # a new variable, the local that it is for, and its value on each way
+
+
+class Choices(Memory):
+    def run(self, frame: Frame, statements: list[Statement], leaf: Leaf, tail: bool) -> list[Leaf]:
+        """The leaves after these statements. `tail`: whether what follows them only returns a value."""
+        out: list[Leaf] = []
+        for i, s in enumerate(statements):
+            only_returns = self.only_returns(frame, statements[i + 1:], tail)
+            if id(s) in frame.comments:
+                leaf.code.append(Comment(frame.comments[id(s)]))
+            code, came = leaf.code, self.step(frame, s, leaf, only_returns)
+            going = [own for own in came if own.target == END]
+            out += [own for own in came if own.target != END]
+            for own in going:
+                self.prune(frame, s, own)
+            if len(going) > 1 and i + 1 < len(statements):
+                one = None if len(going) < len(came) or only_returns else self.join(frame, going, code)
+                if one is None:
+                    return out + [end for own in going for end in self.run(frame, statements[i + 1:], own, tail)]
+                going = [one]
+            if len(going) != 1:
+                return out + going
+            leaf = going[0]
+        return out + [leaf]
+
+    def only_returns(self, frame: Frame, statements: list[Statement], tail: bool) -> bool:
+        for s in statements:
+            if s.word == "Return":
+                return frame.tail
+            if s.word not in ("Opd", "Aggregate") or s.place.steps:
+                return False
+        return tail
+
+    @staticmethod
+    def left(leaf: Leaf) -> Leaf:
+        """A leaf behind the end of a block that it may leave."""
+        if isinstance(leaf.target, int):
+            leaf.target = END if leaf.target == 0 else leaf.target - 1
+        return leaf
+
+    def when(self, frame: Frame, arms: list[Arm], value: Value, leaf: Leaf, tail: bool) -> list[Leaf]:
+        values, arm = arms[0]
+        if len(arms) == 1:
+            return self.run(frame, arm, leaf, tail)
+        tests = [has_value(expression_of(value), own) for own in values]
+        known = [leaf.known(test) for test in tests]
+        if True in known:
+            return self.run(frame, arm, leaf, tail)
+        open_tests = [test for test, holds in zip(tests, known) if holds is None]
+        if not open_tests:
+            return self.when(frame, arms[1:], value, leaf, tail)
+        condition = open_tests[0]
+        for test in open_tests[1:]:
+            condition = Expression("||", BOOL, (condition, test))
+        node = When(condition, [], [])
+        leaf.code.append(node)
+        yes = self.run(frame, arm, leaf.branch(condition, True, node.yes), tail)
+        return yes + self.when(frame, arms[1:], value, leaf.branch(condition, False, node.no), tail)
+
+    # ---- Ways that meet
+
+    def join(self, frame: Frame, going: list[Leaf], code: list[Node]) -> Leaf | None:
+        """One leaf after all of these, or None if what they know is better kept apart."""
+        first, merges, env = going[0], [], {}
+        for key in set.intersection(*(set(own.env) for own in going)):
+            values = [own.env[key] for own in going]
+            defined = [value for value in values if not isinstance(value, Undefined)]
+            merged = self.merged(defined if len(defined) == 1 else values, merges, key)
+            if merged is None:
+                return None
+            env[key] = merged
+        leaf = first.at(code, env)
+        leaf.scope = {name: own for name, own in first.scope.items() if all(other.scope.get(name) is own for other in going)}
+        leaf.facts = {fact: holds for fact, holds in first.facts.items() if all(own.facts.get(fact) == holds for own in going)}
+        leaf.owned = {key: own for key, own in leaf.owned.items() if all(other.owned.get(key) == own for other in going)}
+        leaf.pointers = [own for own in leaf.pointers if all(own in other.pointers for other in going)]
+        node = code[-1] if code else None
+        if isinstance(node, When) and not node.yes and not node.no and len(going) == 2 and len(merges) == 1:
+            place, _, (yes, no) = merges[0]
+            if "?" not in (yes.word, no.word) and first.code is node.yes:
+                code.pop()
+                leaf.change(lambda e: e.replaced(variable(place), choose(node.condition, yes, no)))
+                return leaf
+        self.settle(frame, merges, going, leaf, code)
+        return leaf
+
+    def merged(self, values: list[Value], merges: Merges, key: Key) -> Value | None:
+        first = values[0]
+        if all(value == first for value in values):
+            return first
+        if all(isinstance(value, Expression) for value in values):
+            if any(value.type != first.type for value in values):
+                raise Unknown(f"{self.path}: values of different types meet: {[value.type.text for value in values]}")
+            merges.append((Variable("", first.type), key, values))
+            return variable(merges[-1][0])
+        if all(isinstance(value, Parts) and len(value.parts) == len(first.parts) for value in values):
+            parts = [self.merged([value.parts[i] for value in values], merges, key) for i in range(len(first.parts))]
+            return None if None in parts else Parts(tuple(parts))
+        return None
+
+    def settle(self, frame: Frame, merges: Merges, going: list[Leaf], leaf: Leaf, code: list[Node]) -> None:
+        """Gives variables the values that each leaf comes with. One that holds it already, and nothing else, is taken."""
+        waiting: list[dict[Variable, Expression]] = [{} for _ in going]
+        for place, key, values in merges:
+            others = {used for e in leaf.expressions() if e != variable(place) for used in e.variables()}
+            taken = next((value.args[0] for value in values if value.word == "variable" and value.args[0] not in others
+                          and not value.args[0].is_in_memory and value.args[0].type == place.type), None)
+            if taken is None:
+                taken = place
+                place.name = frame.name(key[1]) if key[0] == frame.number else ""
+                code.insert(len(code) - 1, Declare(place, None))
+            taken.is_set = True
+            leaf.change(lambda e: e.replaced(variable(place), variable(taken)))
+            for each, value in zip(waiting, values):
+                if value != variable(taken):
+                    each[taken] = value
+        for came, each in zip(going, waiting):
+            leaf.forget(lambda fact: bool(fact.variables() & set(each)))
+            self.set_all(each, came)
+
+    # ---- Loops
+
+    def loop(self, frame: Frame, s: Statement, leaf: Leaf) -> list[Leaf]:
+        carried: dict[tuple[Key, Path], Variable] = {}
+        while True:
+            head = leaf.at([])
+            head.facts, head.pointers = {}, []
+            for (key, path), own in carried.items():
+                head.put(key, path, variable(own))
+                if key in head.owned:
+                    head.owned[key] = head.env[key]
+            body: list[Node] = []
+            came = self.run(frame, s.bodies[0], head.at(body), False)
+            back = [own for own in came if own.target == END]
+            found = {(key, path) for own in back for key, value in head.env.items() if key in own.env
+                     for path in differences(value, own.env[key])}
+            if found <= set(carried):
+                break
+            for key, path in sorted(found - set(carried)):
+                carried[key, path] = self.carry(frame, key, path, leaf)
+        for (key, path), own in carried.items():
+            value = self.part(leaf.env[key], path)
+            if value != variable(own):
+                leaf.code.append(Declare(own, value))
+            own.is_set = True
+        leaf.code.append(While(None, body))
+        exits = [own for own in came if own.target != END]
+        for own in came:
+            self.turn(own, carried)
+        if not exits:
+            return []
+        if len({own.target for own in exits}) > 1:
+            raise Unknown(f"{self.path}: a loop that is left to several places")
+        after = self.join(frame, exits, body) if len(exits) > 1 else exits[0]
+        if after is None:
+            raise Unknown(f"{self.path}: a loop that is left with values of different kinds")
+        for own in exits:
+            own.code.append(Break())
+        inner = {node.variable for node in all_nodes(body) if isinstance(node, Declare)} & after.variables()
+        if inner:
+            raise Unknown(f"{self.path}: a value of a loop that is used after it: {[own.name for own in inner]}")
+        after = after.at(leaf.code)
+        after.facts, after.scope, after.pointers = {}, leaf.scope, []
+        return [self.left(after)]
+
+    def carry(self, frame: Frame, key: Key, path: Path, leaf: Leaf) -> Variable:
+        """The variable that holds a value from turn to turn: the one that it is in, if nothing else is."""
+        value = expression_of(self.part(leaf.env[key], path))
+        if value.word == "variable" and not value.args[0].is_in_memory:
+            rest = leaf.at([])
+            rest.put(key, path, Undefined())
+            if value.args[0] not in rest.variables():
+                return value.args[0]
+        name = frame.name(key[1]) if key[0] == frame.number else ""
+        return Variable(name or ("i" if value_of(value) == 0 else ""), value.type)
+
+    def turn(self, leaf: Leaf, carried: dict[tuple[Key, Path], Variable]) -> None:
+        """At the end of a turn the variables get their values for the next one."""
+        here = {at: own for at, own in carried.items() if at[0] in leaf.env}
+        waiting = {own: expression_of(self.part(leaf.env[key], path)) for (key, path), own in here.items()}
+        waiting = {own: e for own, e in waiting.items() if e != variable(own)}
+        for (key, path), own in here.items():
+            leaf.put(key, path, variable(own))
+        self.set_all(waiting, leaf)

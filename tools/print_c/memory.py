@@ -1,0 +1,216 @@
+"""Writes to memory, and pointers to it. What was to be read from it is read before."""
+from __future__ import annotations
+
+import forms
+from expression import (CHANGES, NUMBERS, VOID, Expression, Pointer, Struct, Variable, at, call, convert, number, operation,
+                        value_of, variable)
+from frames import Frame
+from mir import BYTE, Statement, Type, Unknown
+from places import Places, Where, member
+from statement import Declare, Do, Set
+from values import (Bytes, InMemory, Leaf, Parts, Spelled, ToLocal, Value, changed, expression_of, is_step, leaves, parts_of,
+                    put, weight)
+
+
+class Again(Exception):
+    """A local has to be in memory from its beginning: evaluate once more."""
+
+
+class Memory(Places):
+    def keep(self, leaf: Leaf) -> None:
+        """Before memory changes, what was to be read from it is read."""
+        while found := next((e for value in leaf.env.values() if not isinstance(value, (Bytes, InMemory))
+                             for e in leaves(value) if e.reads_memory()), None):
+            new = self.variable_for(found, "", leaf)
+            leaf.change(lambda e: e.replaced(found, new))
+        if any(isinstance(value, Bytes) for value in leaf.env.values()):
+            raise Unknown(f"{self.path}: bytes that are read after memory changes")
+        leaf.forget(lambda fact: fact.reads_memory())
+
+    def do(self, name: str, args: list[Expression], leaf: Leaf) -> None:
+        self.keep(leaf)
+        leaf.code.append(Do(call(name, VOID, args, CHANGES)))
+
+    def store(self, place: Expression, value: Value, leaf: Leaf) -> None:
+        self.keep(leaf)
+        leaf.code.append(Set(place, expression_of(value)))
+
+    def store_at(self, where: Where, value: Value, leaf: Leaf) -> None:
+        type, pointer = where.type, where.pointer
+        if where.struct is not None:
+            name, form = self.library.struct(where.struct).members[where.member]
+            self.store_member(pointer, name, form, value, leaf)
+        elif type.word == "Vector":
+            self.store_vector(self.named_pointer(pointer, leaf, "place"), parts_of(value), leaf)
+        elif type.bits and type.bits // 8 == pointer.type.size:
+            self.store(Expression("element", NUMBERS[type.bits], (pointer,)), value, leaf)
+        elif type.word == "Array" and type.of == BYTE:
+            self.store_bytes(pointer, value, type.count, leaf)
+        elif type.word == "Array" and type.of.bits in (32, 64):
+            for i, part in enumerate(parts_of(value)):
+                place = Expression("element", NUMBERS[type.of.bits], (at(pointer, number(type.of.bits // 8 * i, 64)),))
+                self.store(place, part, leaf)
+        elif type.word == "Named" and isinstance(value, Parts):
+            for part, (name, form) in zip(value.parts, self.library.struct(type).members, strict=True):
+                self.store_member(pointer, name, form, part, leaf)
+        elif type.word == "Named":
+            self.store(Expression("deref", self.library.struct(type), (pointer,)), value, leaf)
+        else:
+            raise Unknown(f"{self.path}: a write of {type}")
+
+    def store_member(self, base: Expression, name: str, form: object, value: Value, leaf: Leaf) -> None:
+        place = member(base, name, form, False)
+        if isinstance(place, Bytes):
+            self.store_bytes(place.pointer, value, place.count, leaf)
+        else:
+            self.store(place, value, leaf)
+
+    def store_vector(self, pointer: Expression, words: tuple[Value, ...], leaf: Leaf) -> None:
+        """All words are read before one is written, unless each is read where it is written."""
+        places = [at(pointer, number(4 * i, 64)) for i in range(len(words))]
+        if any(part.args[0] != place for e, place in zip(words, places) for part in e.parts() if part.word == "load"):
+            words = tuple(self.variable_for(e, "word", leaf) for e in words)
+        self.keep(leaf)
+        for place, word in zip(places, words):
+            leaf.code.append(Do(call("skh_store32", VOID, [place, word], CHANGES)))
+
+    def store_bytes(self, pointer: Expression, value: Value, count: int, leaf: Leaf) -> None:
+        if pointer.type.size != 1:
+            raise Unknown(f"{self.path}: bytes at {pointer.type.text}")
+        if isinstance(value, Bytes) and count in (2, 4, 8):
+            self.do(f"skh_store{8 * count}", [pointer, forms.load(value.pointer, 8 * count)], leaf)
+        elif isinstance(value, Bytes):
+            self.do("memmove", [pointer, value.pointer, number(count, 64)], leaf)
+        elif isinstance(value, Parts) and all(value_of(part) == 0 for part in value.parts):
+            self.do("memset", [pointer, number(0, 32), number(count, 64)], leaf)
+        elif isinstance(value, Spelled) and 8 * count == value.number.type.bits and count in (8, 16):
+            self.keep(leaf)
+            words = [value.number]
+            if count == 16:
+                whole = words[0] if weight(words[0]) == 0 else self.variable_for(words[0], "number", leaf)
+                words = [convert(whole, 64), convert(operation(">>", whole, number(64, 128)), 64)]
+            for i, each in enumerate(words):
+                leaf.code.append(Do(call("skh_store64", VOID, [at(pointer, number(8 * i, 64)), each], CHANGES)))
+        else:
+            raise Unknown(f"{self.path}: a write of {count} bytes")
+
+    # ---- Locals in memory
+
+    def place_in_memory(self, type: Type, value: Value, name: str, leaf: Leaf) -> Variable:
+        """An array of C, whose address may be passed on."""
+        if type.word != "Array" or type.of.bits not in (8, 32, 64):
+            raise Unknown(f"{self.path}: {name or 'a local'} of {type} in memory")
+        text = "unsigned char" if type.of == BYTE else f"uint{type.of.bits}_t"
+        own = Variable(name, Pointer(text, 0, type.of.bits // 8, is_array=True), type.count, is_in_memory=True)
+        if isinstance(value, Spelled):
+            own.is_set, own.name = True, name or "bytes"
+            leaf.code.append(Declare(own, None))
+            self.store_bytes(variable(own), value, type.count, leaf)
+        else:
+            own.is_set = all(value_of(part) == 0 for part in parts_of(value))
+            elements = list(map(expression_of, parts_of(value)))
+            leaf.code.append(Declare(own, elements[:1] if own.is_set else elements))
+        return own
+
+    def declare_struct(self, own: Variable, value: Parts, leaf: Leaf) -> None:
+        """Declares a struct with its members. An array of bytes is written after the others."""
+        if all(isinstance(part, Expression) for part in value.parts):
+            leaf.code.append(Declare(own, list(value.parts)))
+            return
+        own.is_set = True
+        leaf.code.append(Declare(own, None))
+        for part, (name, form) in zip(value.parts, own.type.members, strict=True):
+            self.store_member(variable(own), name, form, part, leaf)
+
+    def address(self, where: Where) -> Value:
+        if where.pointer is None:
+            return ToLocal(where.key, where.path)
+        value = where.pointer if where.struct is None else self.member(where)
+        if isinstance(value, Bytes):
+            return value.pointer
+        if where.struct is not None:
+            raise Unknown(f"{self.path}: the address of a member")
+        return value
+
+    def pointer(self, value: Value, leaf: Leaf) -> Expression:
+        """A pointer of C. A local that it points to is placed in memory."""
+        if not isinstance(value, ToLocal):
+            return expression_of(value)
+        held = leaf.env.get(value.key)
+        if isinstance(held, Expression) and isinstance(held.type, Struct) and held.word == "variable" and not value.path:
+            held.args[0].is_set = held.args[0].is_in_memory = True
+            held = leaf.env[value.key] = InMemory(held.args[0])
+        if isinstance(held, InMemory) and not value.path:
+            own = held.variable
+            return variable(own) if own.count else Expression("address", Pointer(own.type.text, 0, 0), (own,))
+        at = (self.frames[value.key[0] - 1].function.path, value.key[1])
+        if value.path or at in self.in_memory:
+            raise Unknown(f"{self.path}: a pointer to {value}")
+        self.in_memory.add(at)
+        raise Again
+
+    # ---- Assignments
+
+    def assign(self, frame: Frame, s: Statement, value: Value, leaf: Leaf) -> None:
+        if not s.place.steps:
+            self.prune(frame, s, leaf)
+            self.define(frame, s.place.local, value, leaf, s.after.get(s.place.local, 0))
+            return
+        where = self.locate(frame, s.place, leaf)
+        self.prune(frame, s, leaf)
+        if where.pointer is None:
+            leaf.env[where.key] = put(leaf.env[where.key], where.path, value)
+        else:
+            self.store_at(where, value, leaf)
+
+    def prune(self, frame: Frame, s: Statement, leaf: Leaf) -> None:
+        """Forgets locals that are not read any more."""
+        keep = {(frame.number, local) for local in s.after} | frame.caller_keys
+        leaf.env = {key: value for key, value in leaf.env.items() if key in keep}
+
+    def define(self, frame: Frame, local: int, value: Value, leaf: Leaf, reads: int) -> None:
+        """Gives a local its value: as a variable of C, if it has a name or is read several times."""
+        key, name, type = (frame.number, local), frame.name(local), frame.given.type(frame.function.locals[local])
+        if (frame.function.path, local) in self.in_memory:
+            leaf.env[key] = InMemory(self.place_in_memory(type, value, name, leaf))
+            return
+        is_parameter, is_slice = local < frame.first, type.word == "Slice"
+        is_named = local in frame.names and not is_parameter
+        names = [name, name + ("_length" if is_slice and type.of == BYTE else "_count")]
+        if local in frame.names and frame.sets.get(local, 0) > (0 if is_parameter else 1):
+            leaf.env[key] = leaf.owned[key] = self.settled(leaf.owned.get(key), value, names, leaf)
+            return
+        if isinstance(value, Parts) and not is_slice and not is_named or type.word == "Vector":
+            leaf.env[key] = value  # its parts are read one by one
+            return
+        # How much may be written again. A number with a name is written once, and a slice that is cut into pieces gets a name.
+        most = 0 if is_named and not is_slice or frame.function.path == forms.CUTS[0] and is_parameter else 2
+        may_be_inside = reads < 2 and (is_slice or not is_named or type.word == "Ref" or frame is not self.frames[0])
+
+        def settle(e: Expression) -> Expression:
+            if weight(e) <= most or may_be_inside or is_step(e):
+                return e
+            return self.variable_for(e, names[is_slice and e.type.bits > 0], leaf, is_named and isinstance(value, Expression))
+
+        leaf.env[key] = changed(value, settle)
+
+    def settled(self, old: Value | None, value: Value, names: list[str], leaf: Leaf) -> Value:
+        """The value of a local that is set several times, in variables of its own. `old` is what it had before."""
+        values = list(map(expression_of, value.parts if isinstance(value, Parts) else [value]))
+        olds = old.parts if isinstance(old, Parts) else [old] * len(values)
+        out: list[Expression] = []
+        waiting: dict[Variable, Expression] = {}
+        for before, e, name in zip(olds, values, names, strict=False):
+            if before is not None:
+                own = before.args[0]
+                if e != before:
+                    waiting[own] = e
+            elif e.word == "variable" and not e.args[0].is_in_memory and e.args[0] not in leaf.variables():
+                own = e.args[0]  # nothing else holds it
+            else:
+                own = Variable(name, e.type)
+                leaf.code.append(Declare(own, e))
+            out.append(variable(own))
+        self.make_way(set(waiting), leaf)
+        self.set_all(waiting, leaf)
+        return Parts(tuple(out)) if isinstance(value, Parts) else out[0]
