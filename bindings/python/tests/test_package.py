@@ -63,6 +63,19 @@ def test_only_its_own_name_leaves_an_extension(source, tmp_path):
         assert names.split() == [f"PyInit_{extension.name.partition('.')[0]}"]
 
 
+def test_a_wrong_copy_of_the_library_answers_no_call(source, wrong_copy, tmp_path):
+    """Found before the package's own when it is built, and as a shared library that is loaded first."""
+    shutil.copy(wrong_copy / "libwrong.so", tmp_path / "libsketch_hash.so")
+    (tmp_path / "sketch_hash.h").write_text("#error another header")
+    flags = {"CFLAGS": f"-O0 -I{tmp_path}", "LDFLAGS": f"-L{tmp_path}"}
+    done = install(source, tmp_path / "installed", **flags)
+    assert done.returncode == 0, done.stdout
+    code = "from sketch_hash import *; print(xxh64_hexdigest(b'fox'), xxh64(b'fox').hexdigest(), *xxh64_each(column(['fox'])))"
+    right = run([sys.executable, "-c", code]).stdout
+    preload = {"PYTHONPATH": str(tmp_path / "installed"), "LD_PRELOAD": str(wrong_copy / "libwrong.so")}
+    assert run([sys.executable, "-c", code], **preload).stdout == right == "bce6c02d5136f238 bce6c02d5136f238 13611778224642519608\n"
+
+
 @pytest.mark.parametrize("pretence, text", [
     ("sysconfig.get_config_vars()['Py_GIL_DISABLED'] = 1", "a free-threaded Python has no GIL"),
     ("sys.byteorder = 'big'", "needs a little-endian processor"),
