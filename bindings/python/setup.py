@@ -12,7 +12,9 @@ from setuptools import Extension, setup
 from Cython.Build import cythonize  # after setuptools, which brings its own distutils
 
 here = pathlib.Path(__file__).resolve().parent
-if sys.implementation.name != "cpython" or sysconfig.get_config_var("Py_GIL_DISABLED"):
+if sys.implementation.name != "cpython":
+    raise SystemExit(f"sketch-hash needs CPython, whose memory it uses in place; this is {sys.implementation.name}")
+if sysconfig.get_config_var("Py_GIL_DISABLED"):
     raise SystemExit(
         "sketch-hash needs CPython with the GIL, by which calls of several threads on one object take turns; "
         "a free-threaded Python has no GIL"
