@@ -118,7 +118,7 @@ def test_a_vendored_crate_builds(need, repository, tmp_path, target):
 
 
 def test_states_and_filters_are_saved_by_serde(tmp_path):
-    source = new_crate(tmp_path, f'{{ path = "{ROOT}", features = ["serde"] }}\nserde_json = "1"')
+    source = new_crate(tmp_path, f'{{ path = "{ROOT}", features = ["serde"] }}\nserde = "1"\nserde_json = "1"')
     (source / "main.rs").write_text("""
         use sketch_hash::{BloomFilter, Murmur3X64_128, Xxh64};
         fn main() {
@@ -128,11 +128,18 @@ def test_states_and_filters_are_saved_by_serde(tmp_path):
             let mut filter = BloomFilter::with_len(96).unwrap();
             filter.insert(b"fox");
             let saved = serde_json::to_string(&(&one, &two, &filter)).unwrap();
-            assert!((one, two, filter) == serde_json::from_str(&saved).unwrap());
+            assert!((one, two, filter.clone()) == serde_json::from_str(&saved).unwrap());
             let short = serde_json::from_str::<Xxh64>("[1, 2]").unwrap_err().to_string();
             assert!(short.contains("Xxh64 is not saved in this number of bytes: 2"), "{short}");
             assert!(serde_json::from_str::<Murmur3X64_128>("[1]").is_err());
             assert!(serde_json::from_str::<BloomFilter>("[1]").is_err());
+            assert!(serde_json::from_str::<BloomFilter>("[256]").is_err());
+            assert!(serde_json::from_str::<BloomFilter>("5").unwrap_err().to_string().contains("expected bytes"));
+
+            use serde::de::{value::{BytesDeserializer, Error, SeqDeserializer}, Deserialize};
+            let bytes = filter.as_bytes();
+            assert!(filter == BloomFilter::deserialize(BytesDeserializer::<Error>::new(bytes)).unwrap());
+            assert!(filter == BloomFilter::deserialize(SeqDeserializer::<_, Error>::new(bytes.iter().copied())).unwrap());
         }
     """)
     cargo("run", folder=tmp_path)
