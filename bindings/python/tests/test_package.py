@@ -109,6 +109,19 @@ def test_stubs_fit_the_module(need, tmp_path):
     assert done.returncode == 0 and "Success: no issues found" in done.stdout, done.stdout
 
 
+def test_file_digest_takes_a_class_in_the_way_of_the_page(need, tmp_path):
+    """For mypy's strict checks. Newer ones take the class itself."""
+    need("python:mypy", "python:sketch_hash")
+    import sketch_hash
+    (line,) = re.findall(r"`(digest: .*)`", (HERE.parent / "README.md").read_text())
+    (tmp_path / "program.py").write_text(f"from collections.abc import Callable\nfrom typing import Any\nimport hashlib\n"
+                                         f"import sketch_hash\n{line}\nwith open('a', 'rb') as file:\n"
+                                         "    print(hashlib.file_digest(file, digest).hexdigest())\n")
+    command = [sys.executable, "-m", "mypy", "--strict", "--python-version", "3.11", "--cache-dir", tmp_path / "cache"]
+    done = run([*command, tmp_path / "program.py"], MYPYPATH=str(pathlib.Path(sketch_hash.__file__).parents[1]))
+    assert done.returncode == 0, done.stdout
+
+
 def test_sanitizers_find_nothing_in_the_glue(source, tmp_path):
     """The short tests again, with AddressSanitizer and UndefinedBehaviorSanitizer in the glue."""
     installed = tmp_path / "installed"
