@@ -90,3 +90,17 @@ def proved():
     if not PROVED:
         pytest.skip("needs what rt ci proves and builds: bash .ci/run")
     return PROVED
+
+
+@pytest.fixture(scope="session")
+def wrong_copy(need, tmp_path_factory):
+    """A folder with another copy of the library, whose hashes are wrong, and libwrong.so, which exports its calls."""
+    need("gcc")
+    folder = tmp_path_factory.mktemp("wrong")
+    shutil.copy(DIST / "include/sketch_hash.h", folder)
+    text = (DIST / "sketch_hash.c").read_text()
+    wrong = re.sub(r"(SKH_PRIME5 0x27d4eb2f165667c|SKH_C1 0x87c37b91114253d)5u", r"\g<1>7u", text)
+    assert wrong.count("7u") == text.count("7u") + 2
+    (folder / "sketch_hash.c").write_text(wrong)
+    subprocess.run(["gcc", "-shared", "-fPIC", "-o", folder / "libwrong.so", folder / "sketch_hash.c"], check=True)
+    return folder

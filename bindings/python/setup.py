@@ -1,5 +1,6 @@
 """Builds the calls over the library for C, whose text is in `c`. In the repository it is copied from `dist`, as the
 licence is."""
+import hashlib
 import os
 import pathlib
 import re
@@ -11,7 +12,9 @@ from setuptools import Extension, setup
 from Cython.Build import cythonize  # after setuptools, which brings its own distutils
 
 here = pathlib.Path(__file__).resolve().parent
-if sys.implementation.name != "cpython" or sysconfig.get_config_var("Py_GIL_DISABLED"):
+if sys.implementation.name != "cpython":
+    raise SystemExit(f"sketch-hash needs CPython, whose memory it uses in place; this is {sys.implementation.name}")
+if sysconfig.get_config_var("Py_GIL_DISABLED"):
     raise SystemExit(
         "sketch-hash needs CPython with the GIL, by which calls of several threads on one object take turns; "
         "a free-threaded Python has no GIL"
@@ -25,15 +28,18 @@ if (dist / "sketch_hash.c").is_file():
         shutil.copy(dist / name, here / "c")
     for name in ("LICENSE", "NOTICE"):
         shutil.copy(dist / name, here)
-# Other extensions, or a program that embeds Python, may have another version's calls under the same names. So the names
-# of the library stay inside of each module.
+# Other extensions, or a program that embeds Python, may have another copy of the library. So its names stay inside of each
+# module, and have a prefix: another copy with the same names has the same text too.
+namespace = f"python_{hashlib.sha256((here / 'c/sketch_hash.c').read_bytes()).hexdigest()[:16]}_"
+macros = [("SKETCH_HASH_NAMESPACE", namespace)]
 exports = ["-Xlinker", f"--version-script={here}/exports.map"] if sys.platform == "linux" else []
 # Python's own flags have -g, whose output is five sixths of a module.
 if exports and "-g" not in os.environ.get("CFLAGS", "").split():
     exports += ["-Xlinker", "--strip-debug"]
-library = "sketch_hash", {"sources": ["c/sketch_hash.c"], "include_dirs": ["c"]}
+library = f"{namespace}sketch_hash", {"sources": ["c/sketch_hash.c"], "macros": macros}
 modules = [
-    Extension(".".join(path.with_suffix("").parts[1:]), [str(path)], include_dirs=["c"], extra_link_args=exports)
+    Extension(".".join(path.with_suffix("").parts[1:]), [str(path)], include_dirs=["."], define_macros=macros,
+              extra_link_args=exports)
     for path in sorted(path.relative_to(here) for path in here.glob("src/**/*.pyx"))
 ]
 directives = {"language_level": 3, "binding": False, "auto_pickle": False, "always_allow_keywords": False}

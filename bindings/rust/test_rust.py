@@ -1,4 +1,5 @@
 """The crate as cargo takes it: its tests, its oldest Rust, the package, and what a library that embeds it exports."""
+import json
 import os
 import pathlib
 import re
@@ -64,7 +65,8 @@ def test_builds_with_core_and_alloc_alone(tmp_path):
         for library in pathlib.Path(sysroot, "lib/rustlib", triple, "lib").glob(f"lib{name}-*"):
             shutil.copy(library, copy)
     args = ["--edition", "2021", "--crate-type", "lib", "--emit", "metadata", "--out-dir", tmp_path]
-    subprocess.run(["rustc", "--sysroot", tmp_path, *args, ROOT / "bindings/rust/src/lib.rs"], check=True)
+    subprocess.run(["rustc", "--sysroot", tmp_path, *args, ROOT / "bindings/rust/src/lib.rs"], check=True,
+                   env={**os.environ, "SKETCH_HASH_NAMESPACE": "as_build_rs_says_"})
 
 
 @pytest.fixture(scope="session")
@@ -116,7 +118,7 @@ def test_a_vendored_crate_builds(need, repository, tmp_path, target):
 
 
 def test_states_and_filters_are_saved_by_serde(tmp_path):
-    source = new_crate(tmp_path, f'{{ path = "{ROOT}", features = ["serde"] }}\nserde_json = "1"')
+    source = new_crate(tmp_path, f'{{ path = "{ROOT}", features = ["serde"] }}\nserde = "1"\nserde_json = "1"')
     (source / "main.rs").write_text("""
         use sketch_hash::{BloomFilter, Murmur3X64_128, Xxh64};
         fn main() {
@@ -126,11 +128,18 @@ def test_states_and_filters_are_saved_by_serde(tmp_path):
             let mut filter = BloomFilter::with_len(96).unwrap();
             filter.insert(b"fox");
             let saved = serde_json::to_string(&(&one, &two, &filter)).unwrap();
-            assert!((one, two, filter) == serde_json::from_str(&saved).unwrap());
+            assert!((one, two, filter.clone()) == serde_json::from_str(&saved).unwrap());
             let short = serde_json::from_str::<Xxh64>("[1, 2]").unwrap_err().to_string();
             assert!(short.contains("Xxh64 is not saved in this number of bytes: 2"), "{short}");
             assert!(serde_json::from_str::<Murmur3X64_128>("[1]").is_err());
             assert!(serde_json::from_str::<BloomFilter>("[1]").is_err());
+            assert!(serde_json::from_str::<BloomFilter>("[256]").is_err());
+            assert!(serde_json::from_str::<BloomFilter>("5").unwrap_err().to_string().contains("expected bytes"));
+
+            use serde::de::{value::{BytesDeserializer, Error, SeqDeserializer}, Deserialize};
+            let bytes = filter.as_bytes();
+            assert!(filter == BloomFilter::deserialize(BytesDeserializer::<Error>::new(bytes)).unwrap());
+            assert!(filter == BloomFilter::deserialize(SeqDeserializer::<_, Error>::new(bytes.iter().copied())).unwrap());
         }
     """)
     cargo("run", folder=tmp_path)
@@ -143,3 +152,46 @@ def test_a_cdylib_exports_none_of_the_calls(target, need, tmp_path):
     cargo("build", folder=tmp_path)
     exported = subprocess.check_output(["nm", "-D", target / "debug/libplugin.so"], text=True)
     assert " T plugin" in exported and "sketch_" not in exported
+
+
+def test_a_wrong_copy_in_the_program_answers_no_call_of_the_crate(wrong_copy, tmp_path):
+    """Linked statically, before the crate's own copy, and as a shared library that is loaded first."""
+    source = new_crate(tmp_path, f'{{ path = "{ROOT}" }}\n[build-dependencies]\ncc = "1"')
+    (tmp_path / "other.c").write_text('#include "sketch_hash.h"\nuint64_t other(void) { return sketch_xxh64("fox", 3, 0); }')
+    (tmp_path / "build.rs").write_text(f"""
+        fn main() {{
+            let (folder, other) = ({json.dumps(str(wrong_copy))}, {json.dumps(str(tmp_path / "other.c"))});
+            cc::Build::new().include(folder).file(other).file(format!("{{folder}}/sketch_hash.c")).compile("sketch_hash");
+        }}
+    """)
+    (source / "main.rs").write_text("""
+        extern "C" { fn other() -> u64; }
+        fn main() {
+            let answer = sketch_hash::xxh64(b"fox", 0);
+            let mut stream = sketch_hash::Xxh64::new(0);
+            stream.update(b"fox");
+            assert_eq!((answer, stream.digest()), (0xbce6_c02d_5136_f238, answer));
+            assert_ne!(unsafe { other() }, answer);
+        }
+    """)
+    cargo("run", folder=tmp_path)
+    program = pathlib.Path(os.environ["CARGO_TARGET_DIR"], "debug/plugin")
+    subprocess.run([program], env={**os.environ, "LD_PRELOAD": str(wrong_copy / "libwrong.so")}, check=True)
+
+
+def test_two_versions_of_the_crate_are_in_one_program(repository, wrong_copy, tmp_path):
+    """Each with its own copy of the library: that of the older one is wrong here."""
+    older = shutil.copytree(repository, tmp_path / "older")
+    shutil.copy(wrong_copy / "sketch_hash.c", older / "dist")
+    manifest = (older / "Cargo.toml").read_text()
+    (older / "Cargo.toml").write_text(re.sub('^version = ".*"$', 'version = "2.9.0"', manifest, count=1, flags=re.M))
+    (tmp_path / "program").mkdir()
+    both = f'{{ path = "{ROOT}" }}\nolder = {{ package = "sketch-hash", path = "{older}" }}'
+    source = new_crate(tmp_path / "program", both)
+    (source / "main.rs").write_text("""
+        fn main() {
+            assert_eq!(sketch_hash::xxh64(b"fox", 0), 0xbce6_c02d_5136_f238);
+            assert_ne!(older::xxh64(b"fox", 0), 0xbce6_c02d_5136_f238);
+        }
+    """)
+    cargo("run", folder=tmp_path / "program")

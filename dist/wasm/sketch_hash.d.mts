@@ -10,6 +10,9 @@ declare global {
 /** What is hashed: its bytes, as they are in memory. */
 export type Input = ArrayBuffer | ArrayBufferView;
 
+/** The class URL, where it is declared: by lib dom or by @types/node. */
+type Url = typeof globalThis extends { URL: new (...args: any) => infer Instance } ? Instance : never;
+
 /** A key of a Bloom filter: bytes, or a text, of which the filter takes the UTF-8, as TextEncoder writes it. */
 export type Key = Input | string;
 
@@ -184,4 +187,4 @@ export interface Library {
  *
  * @throws {Error} if the engine has no WebAssembly, or what is loaded cannot be read, or is not this module
  */
-export function load(source?: URL | string | Input): Promise<Library>;
+export function load(source?: Url | string | Input): Promise<Library>;

@@ -49,12 +49,14 @@ def waits(long_call, call):
     return False
 
 
-def assert_releases_the_gil(call, data, ticks):
-    """The other thread may be late on a busy machine, so it has ten seconds."""
-    before, end = len(ticks), time.monotonic() + 10
-    while len(ticks) == before and time.monotonic() < end:
+def assert_releases_the_gil(call, data, ticks, least=1):
+    """So long that another thread runs this often in a call. It may be late on a busy machine, so it has ten seconds."""
+    seen, end = 0, time.monotonic() + 10
+    while seen < least and time.monotonic() < end:
+        before = len(ticks)
         call(data)
-    assert len(ticks) > before
+        seen = len(ticks) - before
+    assert seen >= least
 
 
 def rate_of(bloom):

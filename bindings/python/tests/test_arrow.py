@@ -329,6 +329,8 @@ BROKEN = {  # a format, a length, buffers, other fields, what it must have
     "no text": ("u", 3, [None, OFFSETS, None], {}, "memory for its texts"),
     "negative offset": ("u", 2, [None, struct.pack("<3i", -1, 0, 3), b"fox"], {}, "offsets|the offset at 0"),
     "falling": ("u", 2, [None, struct.pack("<3i", 0, 3, 2), b"fox"], {}, "offsets|the offset at 1"),
+    "first above last": ("u", 2, [None, struct.pack("<3i", 1000, 2000, 5), b"fox"], {}, "offsets"),
+    "farthest apart": ("U", 2, [None, struct.pack("<3q", -2**63, 0, 2**63 - 1), b"fox"], {}, "offsets"),
     "falling 64": ("U", 2, [None, struct.pack("<3q", 0, 3, -2**63), b"fox"], {}, "offsets"),
     "view length": ("vu", 1, [None, VIEW.pack(-1, b"", 0, 0), b""], {}, "views"),
     "view text": ("vu", 1, [None, VIEW.pack(13, b"", 1, 0), bytes(20), struct.pack("<q", 20)], {}, "views"),
@@ -424,6 +426,20 @@ def test_a_column_in_the_memory_of_the_filter_is_an_error(format, buffer, produc
         with pytest.raises(ValueError, match="^the column is in the filter's own memory: pass a copy of it$"):
             bloom.add_each(make())
         assert memory == before
+
+
+@pytest.mark.parametrize("call", CALLS)
+def test_rows_of_one_long_text_release_the_gil(call, producer, ticks):
+    """By the bytes that are hashed, 256 MB here, and not by those of the dictionary. To check an array releases it too, for
+    a moment."""
+    text, codes = bytes(1 << 14), bytes(1 << 14)
+
+    def column(_):
+        dictionary = producer.inner.array(1, None, struct.pack("<2i", 0, len(text)), text)
+        call(producer.exported(producer.schema("c", producer.inner.schema("z")),
+                               producer.array(len(codes), None, codes, dictionary=dictionary)))
+
+    assert_releases_the_gil(column, None, ticks, least=8)
 
 
 def test_a_stream_may_wait_for_a_thread_that_needs_the_gil(need, tmp_path, ticks):

@@ -285,6 +285,8 @@ def test_an_invalid_fold_raises_and_changes_nothing(make, args, error, text):
 
 @pytest.mark.parametrize("way", [
     "view(buffer)", "view(memoryview(buffer))", "view(memoryview(view(buffer)))", "memoryview(view(buffer))",
+    pytest.param("view(exporter(buffer))", marks=pytest.mark.skipif(
+        sys.version_info < (3, 12), reason="before Python 3.12 no class of Python exports memory")),
 ])
 def test_a_cycle_through_a_view_is_collected(way):
     """In a process of its own, since the order in which the collector clears objects depends on all others."""
@@ -292,6 +294,10 @@ def test_a_cycle_through_a_view_is_collected(way):
         import gc, weakref, sketch_hash
         view = sketch_hash.BloomFilter.view
         class Buffer(bytearray): pass
+        def exporter(buffer):
+            exporter = type("Exporter", (), {{"__buffer__": lambda self, flags: memoryview(self.memory)}})()
+            exporter.memory, exporter.buffer = bytearray(1024), buffer
+            return exporter
         def cycle():
             buffer = Buffer(1024)
             buffer.view = {way}

@@ -63,15 +63,29 @@ def test_only_its_own_name_leaves_an_extension(source, tmp_path):
         assert names.split() == [f"PyInit_{extension.name.partition('.')[0]}"]
 
 
+def test_a_wrong_copy_of_the_library_answers_no_call(source, wrong_copy, tmp_path):
+    """Found before the package's own when it is built, and as a shared library that is loaded first."""
+    shutil.copy(wrong_copy / "libwrong.so", tmp_path / "libsketch_hash.so")
+    (tmp_path / "sketch_hash.h").write_text("#error another header")
+    flags = {"CFLAGS": f"-O0 -I{tmp_path}", "LDFLAGS": f"-L{tmp_path}"}
+    done = install(source, tmp_path / "installed", **flags)
+    assert done.returncode == 0, done.stdout
+    code = "from sketch_hash import *; print(xxh64_hexdigest(b'fox'), xxh64(b'fox').hexdigest(), *xxh64_each(column(['fox'])))"
+    right = run([sys.executable, "-c", code]).stdout
+    preload = {"PYTHONPATH": str(tmp_path / "installed"), "LD_PRELOAD": str(wrong_copy / "libwrong.so")}
+    assert run([sys.executable, "-c", code], **preload).stdout == right == "bce6c02d5136f238 bce6c02d5136f238 13611778224642519608\n"
+
+
 @pytest.mark.parametrize("pretence, text", [
     ("sysconfig.get_config_vars()['Py_GIL_DISABLED'] = 1", "a free-threaded Python has no GIL"),
     ("sys.byteorder = 'big'", "needs a little-endian processor"),
-], ids=["free-threaded", "big-endian"])
+    ("sys.implementation.name = 'pypy'", "needs CPython, .* this is pypy"),
+], ids=["free-threaded", "big-endian", "pypy"])
 def test_a_python_that_would_be_wrong_is_an_error(pretence, text, source):
     """There is none here, so this Python pretends to be one."""
     setup = f"import runpy, sys, sysconfig; {pretence}; runpy.run_path('setup.py')"
     done = run([sys.executable, "-c", setup], cwd=source)
-    assert done.returncode == 1 and text in done.stdout
+    assert done.returncode == 1 and re.search(text, done.stdout)
 
 
 def test_stubs_fit_the_module(need, tmp_path):
@@ -93,6 +107,19 @@ def test_stubs_fit_the_module(need, tmp_path):
         stubtest.append("--ignore-disjoint-bases")
     done = run(stubtest, MYPYPATH=folder, PYTHONPATH=folder)
     assert done.returncode == 0 and "Success: no issues found" in done.stdout, done.stdout
+
+
+def test_file_digest_takes_a_class_in_the_way_of_the_page(need, tmp_path):
+    """For mypy's strict checks. Newer ones take the class itself."""
+    need("python:mypy", "python:sketch_hash")
+    import sketch_hash
+    (line,) = re.findall(r"`(digest: .*)`", (HERE.parent / "README.md").read_text())
+    (tmp_path / "program.py").write_text(f"from collections.abc import Callable\nfrom typing import Any\nimport hashlib\n"
+                                         f"import sketch_hash\n{line}\nwith open('a', 'rb') as file:\n"
+                                         "    print(hashlib.file_digest(file, digest).hexdigest())\n")
+    command = [sys.executable, "-m", "mypy", "--strict", "--python-version", "3.11", "--cache-dir", tmp_path / "cache"]
+    done = run([*command, tmp_path / "program.py"], MYPYPATH=str(pathlib.Path(sketch_hash.__file__).parents[1]))
+    assert done.returncode == 0, done.stdout
 
 
 def test_sanitizers_find_nothing_in_the_glue(source, tmp_path):

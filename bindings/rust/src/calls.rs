@@ -67,95 +67,106 @@ pub type InsertValues<V> = unsafe extern "C" fn(*mut u8, usize, *const V, usize)
 pub type ContainsValues<V> =
     unsafe extern "C" fn(*const u8, usize, *const V, usize, *mut bool, usize) -> c_int;
 
-unsafe extern "C" {
-    pub safe fn sketch_hash_version() -> u32;
+/// Declares calls of the copy of the library that this crate compiles. `build.rs` gives its names a
+/// prefix that no other copy in the program has.
+macro_rules! calls {
+    ($($safety:ident fn $name:ident($($argument:ident: $Type:ty),* $(,)?) $(-> $Answer:ty)?;)*) => {
+        unsafe extern "C" {$(
+            #[link_name = concat!(env!("SKETCH_HASH_NAMESPACE"), stringify!($name))]
+            pub $safety fn $name($($argument: $Type),*) $(-> $Answer)?;
+        )*}
+    };
+}
 
-    pub fn sketch_xxh64(input: *const u8, length: usize, seed: u64) -> u64;
-    pub safe fn sketch_xxh64_u64(value: u64, seed: u64) -> u64;
-    pub fn sketch_xxh64_update(state: &mut Xxh64State, input: *const u8, length: usize);
-    pub safe fn sketch_xxh64_digest(state: &Xxh64State) -> u64;
+calls! {
+    safe fn sketch_hash_version() -> u32;
 
-    pub fn sketch_xxh64_each32(
+    unsafe fn sketch_xxh64(input: *const u8, length: usize, seed: u64) -> u64;
+    safe fn sketch_xxh64_u64(value: u64, seed: u64) -> u64;
+    unsafe fn sketch_xxh64_update(state: &mut Xxh64State, input: *const u8, length: usize);
+    safe fn sketch_xxh64_digest(state: &Xxh64State) -> u64;
+
+    unsafe fn sketch_xxh64_each32(
         input: *const u8, length: usize, offsets: *const u32, offset_count: usize, seed: u64,
         out: *mut u64, count: usize, wrong_offset: &mut usize,
     ) -> c_int;
-    pub fn sketch_xxh64_each64(
+    unsafe fn sketch_xxh64_each64(
         input: *const u8, length: usize, offsets: *const u64, offset_count: usize, seed: u64,
         out: *mut u64, count: usize, wrong_offset: &mut usize,
     ) -> c_int;
-    pub fn sketch_xxh64_each_u64(
+    unsafe fn sketch_xxh64_each_u64(
         values: *const u64, value_count: usize, seed: u64, out: *mut u64, count: usize,
     ) -> c_int;
 
-    pub fn sketch_murmur3_x64_128(input: *const u8, length: usize, seed: u64, hash: &mut [u64; 2]);
-    pub fn sketch_murmur3_x64_128_update(
+    unsafe fn sketch_murmur3_x64_128(input: *const u8, length: usize, seed: u64, hash: &mut [u64; 2]);
+    unsafe fn sketch_murmur3_x64_128_update(
         state: &mut Murmur3X64_128State, input: *const u8, length: usize,
     );
-    pub safe fn sketch_murmur3_x64_128_digest(state: &Murmur3X64_128State, hash: &mut [u64; 2]);
-    pub safe fn sketch_murmur3_x64_128_bytes(hash: &[u64; 2], out: &mut [u8; 16]);
-    pub fn sketch_murmur3_x64_128_each32(
+    safe fn sketch_murmur3_x64_128_digest(state: &Murmur3X64_128State, hash: &mut [u64; 2]);
+    safe fn sketch_murmur3_x64_128_bytes(hash: &[u64; 2], out: &mut [u8; 16]);
+    unsafe fn sketch_murmur3_x64_128_each32(
         input: *const u8, length: usize, offsets: *const u32, offset_count: usize, seed: u64,
         out: *mut [u64; 2], count: usize, wrong_offset: &mut usize,
     ) -> c_int;
-    pub fn sketch_murmur3_x64_128_each64(
+    unsafe fn sketch_murmur3_x64_128_each64(
         input: *const u8, length: usize, offsets: *const u64, offset_count: usize, seed: u64,
         out: *mut [u64; 2], count: usize, wrong_offset: &mut usize,
     ) -> c_int;
 
-    pub safe fn sketch_bloom_bytes_for(keys: u64, one_in: u64) -> usize;
-    pub safe fn sketch_bloom_check(length: usize) -> c_int;
-    pub fn sketch_bloom_insert(
+    safe fn sketch_bloom_bytes_for(keys: u64, one_in: u64) -> usize;
+    safe fn sketch_bloom_check(length: usize) -> c_int;
+    unsafe fn sketch_bloom_insert(
         bits: *mut u8, length: usize, key: *const u8, key_length: usize,
     ) -> c_int;
-    pub fn sketch_bloom_contains(
+    unsafe fn sketch_bloom_contains(
         bits: *const u8, length: usize, key: *const u8, key_length: usize,
     ) -> c_int;
-    pub fn sketch_bloom_insert_hash(bits: *mut u8, length: usize, hash: u64) -> c_int;
-    pub fn sketch_bloom_contains_hash(bits: *const u8, length: usize, hash: u64) -> c_int;
-    pub fn sketch_bloom_insert_each32(
+    unsafe fn sketch_bloom_insert_hash(bits: *mut u8, length: usize, hash: u64) -> c_int;
+    unsafe fn sketch_bloom_contains_hash(bits: *const u8, length: usize, hash: u64) -> c_int;
+    unsafe fn sketch_bloom_insert_each32(
         bits: *mut u8, length: usize, keys: *const u8, keys_length: usize, offsets: *const u32,
         offset_count: usize, wrong_offset: &mut usize,
     ) -> c_int;
-    pub fn sketch_bloom_insert_each64(
+    unsafe fn sketch_bloom_insert_each64(
         bits: *mut u8, length: usize, keys: *const u8, keys_length: usize, offsets: *const u64,
         offset_count: usize, wrong_offset: &mut usize,
     ) -> c_int;
-    pub fn sketch_bloom_insert_each_u32(
+    unsafe fn sketch_bloom_insert_each_u32(
         bits: *mut u8, length: usize, values: *const u32, count: usize,
     ) -> c_int;
-    pub fn sketch_bloom_insert_each_u64(
+    unsafe fn sketch_bloom_insert_each_u64(
         bits: *mut u8, length: usize, values: *const u64, count: usize,
     ) -> c_int;
-    pub fn sketch_bloom_insert_each_hash(
+    unsafe fn sketch_bloom_insert_each_hash(
         bits: *mut u8, length: usize, hashes: *const u64, count: usize,
     ) -> c_int;
     // A `bool` is one byte, 1 or 0, and the library writes no other.
-    pub fn sketch_bloom_contains_each32(
+    unsafe fn sketch_bloom_contains_each32(
         bits: *const u8, length: usize, keys: *const u8, keys_length: usize, offsets: *const u32,
         offset_count: usize, found: *mut bool, count: usize, wrong_offset: &mut usize,
     ) -> c_int;
-    pub fn sketch_bloom_contains_each64(
+    unsafe fn sketch_bloom_contains_each64(
         bits: *const u8, length: usize, keys: *const u8, keys_length: usize, offsets: *const u64,
         offset_count: usize, found: *mut bool, count: usize, wrong_offset: &mut usize,
     ) -> c_int;
-    pub fn sketch_bloom_contains_each_u32(
+    unsafe fn sketch_bloom_contains_each_u32(
         bits: *const u8, length: usize, values: *const u32, value_count: usize, found: *mut bool,
         count: usize,
     ) -> c_int;
-    pub fn sketch_bloom_contains_each_u64(
+    unsafe fn sketch_bloom_contains_each_u64(
         bits: *const u8, length: usize, values: *const u64, value_count: usize, found: *mut bool,
         count: usize,
     ) -> c_int;
-    pub fn sketch_bloom_contains_each_hash(
+    unsafe fn sketch_bloom_contains_each_hash(
         bits: *const u8, length: usize, hashes: *const u64, hash_count: usize, found: *mut bool,
         count: usize,
     ) -> c_int;
-    pub fn sketch_bloom_merge(
+    unsafe fn sketch_bloom_merge(
         into: *mut u8, length: usize, from: *const u8, from_length: usize,
     ) -> c_int;
-    pub fn sketch_bloom_fold(bits: *mut u8, length: usize) -> c_int;
-    pub fn sketch_bloom_fold_to(bits: *mut u8, length: usize, one_in: u64) -> usize;
-    pub safe fn sketch_bloom_block_offset(length: usize, hash: u64) -> usize;
-    pub fn sketch_bloom_header_write(bytes: u64, header: *mut u8, length: usize) -> usize;
-    pub fn sketch_bloom_header_read(input: *const u8, length: usize, bytes: &mut u64) -> usize;
+    unsafe fn sketch_bloom_fold(bits: *mut u8, length: usize) -> c_int;
+    unsafe fn sketch_bloom_fold_to(bits: *mut u8, length: usize, one_in: u64) -> usize;
+    safe fn sketch_bloom_block_offset(length: usize, hash: u64) -> usize;
+    unsafe fn sketch_bloom_header_write(bytes: u64, header: *mut u8, length: usize) -> usize;
+    unsafe fn sketch_bloom_header_read(input: *const u8, length: usize, bytes: &mut u64) -> usize;
 }

@@ -17,12 +17,18 @@ def test_module_works_under_node(name, need):
     assert done.returncode == 0, done.stdout
 
 
-def test_types_take_what_they_say(need, tmp_path):
-    """types.mts uses each type, and marks what must not compile."""
+@pytest.mark.parametrize("lib, url", [("es2022,dom", "new URL('file:///a')"), ("es2022", "'a'")], ids=["dom", "no dom"])
+def test_types_take_what_they_say(lib, url, need, tmp_path):
+    """types.mts uses each type, and marks what must not compile. Without lib dom and @types/node there is no class URL."""
     need("tsc")
+    (tmp_path / "url.mts").write_text(f"""import {{ load }} from './sketch_hash.mjs';
+        load({url});
+        // @ts-expect-error: what has an href is no URL
+        load({{ href: 'file:///a' }});
+    """)
     for file in (DIST / "wasm/sketch_hash.d.mts", HERE / "types.mts"):
         shutil.copy(file, tmp_path)
-    args = "--noEmit --strict --target es2022 --lib es2022,dom --module nodenext --moduleResolution nodenext types.mts"
+    args = f"--noEmit --strict --target es2022 --lib {lib} --module nodenext --moduleResolution nodenext types.mts url.mts"
     done = subprocess.run(["tsc", *args.split()], cwd=tmp_path, capture_output=True, text=True)
     assert done.returncode == 0, done.stdout
 

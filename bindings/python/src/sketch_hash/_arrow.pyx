@@ -6,7 +6,7 @@ from libc.stdint cimport int32_t, int64_t, uint64_t, uintptr_t
 from libc.stdlib cimport calloc, free
 from libc.string cimport memcpy, memset
 
-from ._common cimport overlap
+from ._common cimport LONG, overlap
 from ._keys cimport (
     HASHES, NUMBERS32, NUMBERS64, OFFSETS32, OFFSETS64, Content, Keys, contains_keys, hash_keys, insert_keys,
 )
@@ -203,12 +203,19 @@ cdef bint has_wrong_view(const Values *values, size_t begin, size_t end, size_t 
     return False
 
 
-cdef bint has_wrong_code(const Values *rows, size_t begin, size_t end, size_t length) noexcept nogil:
-    """Whether a code is not within a dictionary of this length."""
+cdef bint has_wrong_code(const Chunk *chunk, size_t begin, size_t end, size_t *num_bytes) noexcept nogil:
+    """Whether a code is not within the dictionary. Adds the bytes of the keys, until a call on them is long."""
+    cdef const char *key
+    cdef int32_t widened
+    cdef int64_t code
     cdef size_t i
     for i in range(begin, end):
-        if not is_missing(rows, i) and not 0 <= number_at(rows, i) < <int64_t>length:
-            return True
+        if not is_missing(&chunk.rows, i):
+            code = number_at(&chunk.rows, i)
+            if not 0 <= code < <int64_t>chunk.keys.length:
+                return True
+            if num_bytes[0] < LONG and not is_missing(chunk.keys, code):
+                num_bytes[0] += key_at(chunk.keys, code, &key, &widened)
     return False
 
 
@@ -247,6 +254,7 @@ cdef int read_values(const ArrowArray *array, tuple type, Values *values) except
 cdef size_t check_values(const Values *values, bint are_offsets_checked) except? 0:
     """Returns about how many bytes there are to read."""
     cdef size_t num_bytes = values.length * (8 + values.width), begin, end
+    cdef int64_t start, stop
     cdef const char *first
     cdef bint is_wrong
     cdef bint is_checked = values.layout == VIEWS or values.layout == OFFSETS and not are_offsets_checked
@@ -264,22 +272,23 @@ cdef size_t check_values(const Values *values, bint are_offsets_checked) except?
         require(not is_wrong, what)
         PyErr_CheckSignals()
     if values.layout == OFFSETS and values.length:
-        require(0 <= number_at(values, values.length) <= PY_SSIZE_T_MAX, what)
-        length = number_at(values, values.length) - number_at(values, 0)
-        require(values.text is not NULL or length == 0, "have memory for its texts")
-        num_bytes += length
+        start, stop = number_at(values, 0), number_at(values, values.length)
+        require(0 <= start <= stop <= PY_SSIZE_T_MAX, what)
+        require(values.text is not NULL or start == stop, "have memory for its texts")
+        num_bytes += stop - start
     return num_bytes
 
 
-cdef int check_codes(const Values *rows, size_t length) except -1:
-    cdef size_t begin
+cdef size_t check_codes(const Chunk *chunk) except? 0:
+    """Returns how many bytes the keys have in all rows, or LONG or more."""
+    cdef size_t num_bytes = 0, begin, length = chunk.rows.length
     cdef bint is_wrong
-    for begin in range(0, rows.length, MANY):
+    for begin in range(0, length, MANY):
         with nogil:
-            is_wrong = has_wrong_code(rows, begin, min(begin + MANY, rows.length), length)
+            is_wrong = has_wrong_code(chunk, begin, min(begin + MANY, length), &num_bytes)
         require(not is_wrong, "have codes within its dictionary")
         PyErr_CheckSignals()
-    return 0
+    return num_bytes
 
 
 cdef bint values_overlap(const Values *values, const void *memory, size_t length) noexcept nogil:
@@ -400,7 +409,6 @@ cdef class Arrow:
         if self.keys is not None:
             chunk.keys = &chunk.dictionary
             read_values(chunk.array.dictionary, self.keys, &chunk.dictionary)
-            check_codes(&chunk.rows, chunk.dictionary.length)
         chunk.has_nulls = (chunk.rows.valid is not NULL or chunk.keys.valid is not NULL
                            or chunk.keys.layout == NOTHING)
         chunk.content = content_of(chunk)
@@ -408,6 +416,8 @@ cdef class Arrow:
         require(self.count < MOST_ROWS, f"have less than {MOST_ROWS} values")
         is_one_call = is_alone and chunk.content in (OFFSETS32, OFFSETS64)
         self.num_bytes += chunk.rows.length * 8 + check_values(chunk.keys, is_one_call)
+        if self.keys is not None:
+            self.num_bytes += check_codes(chunk)
         return 0
 
     cdef int refuse_nulls(self) except -1:

@@ -126,25 +126,31 @@ cdef class Export:
     """Keeps the memory of a memoryview, which anyone may release who finds it.
 
     It exports the memory of the owner again. That the export refers to the owner is hidden from the garbage collector, which
-    sees `owner` instead: so a cycle is found. An owner whose memory is another one each time is not asked again: then the
-    memoryview itself is exported, and a cycle is not found, since CPython crashes if one is cleared with exports.
+    sees `owner` instead: so a cycle is found. The owner is what the memoryview names or, if that exports nothing, as of a
+    class with __buffer__, the object that it was made of. If neither exports this memory again, the memoryview itself is
+    exported, and a cycle is not found, since CPython crashes if one is cleared with exports.
     """
 
     cdef View memory
     cdef object owner  # or None
 
-    def __cinit__(self, view):
-        cdef View *seen = PyMemoryView_GET_BUFFER(view)
-        try:
-            PyObject_GetBuffer(view.obj, &self.memory, PyBUF_FULL_RO)
-        except (BufferError, TypeError, ValueError):
-            self.memory.obj = NULL
-        if self.memory.obj is not NULL and is_within(seen, &self.memory):
+    def __cinit__(self, view, source):
+        if self.is_exported_by(view.obj, view) or type(source) is not memoryview and self.is_exported_by(source, view):
             self.owner = <object>self.memory.obj
             Py_DECREF(self.owner)
         else:
-            PyBuffer_Release(&self.memory)
             PyObject_GetBuffer(view, &self.memory, PyBUF_FULL_RO)
+
+    cdef bint is_exported_by(self, object owner, object view) except -1:
+        """Whether the owner exports the memory of the view again. Then it is kept."""
+        try:
+            PyObject_GetBuffer(owner, &self.memory, PyBUF_FULL_RO)
+        except Exception:  # of the owner's own code
+            self.memory.obj = NULL
+        if self.memory.obj is not NULL and is_within(PyMemoryView_GET_BUFFER(view), &self.memory):
+            return True
+        PyBuffer_Release(&self.memory)
+        return False
 
     def __dealloc__(self):
         if self.owner is not None:
@@ -194,11 +200,11 @@ cdef class BloomFilter:
             PyBuffer_Release(&bits)
         return 0
 
-    cdef int adopt_memoryview(self, object memory) except -1:
+    cdef int adopt_memoryview(self, object memory, object source) except -1:
         cdef View bits = PyMemoryView_GET_BUFFER(memory)[0]
         bits.obj = NULL
         check_length(bits.len)
-        self.swap_memory(&bits, Export(memory))
+        self.swap_memory(&bits, Export(memory, source))
         PyBuffer_Release(&bits)
         return 0
 
@@ -322,7 +328,7 @@ cdef class BloomFilter:
             refuse_addresses(memory.format)
         if not PyBuffer_IsContiguous(PyMemoryView_GET_BUFFER(memory), c"C"):
             raise BufferError("a view must be of memory that is C-contiguous")
-        filter.adopt_memoryview(memory)
+        filter.adopt_memoryview(memory, buffer)
         return filter
 
     def release(self):

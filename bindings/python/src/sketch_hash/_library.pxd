@@ -1,7 +1,7 @@
 """The library for C, as sketch_hash.h declares it."""
 from libc.stdint cimport uint32_t, uint64_t
 
-cdef extern from "sketch_hash.h" nogil:
+cdef extern from "c/sketch_hash.h" nogil:
     enum:
         SKETCH_ERROR_OFFSET
         SKETCH_BLOOM_HEADER_MAX
