@@ -78,8 +78,7 @@ def picture():
     yield text(14, 44, "Below 1 we are faster. By the length of a key in bytes.", "small")
     for i, (title, compared, pairs) in enumerate(chosen):
         yield f'<g transform="translate({40 + i % 2 * 205} {100 + i // 2 * 194})">'
-        yield from plot(title, compared, pairs)
-        yield "</g>"
+        yield "".join(plot(title, compared, pairs)) + "</g>"
     yield text(14, 452, f"Medians of 101 rounds, {processor.replace('(R)', '')}, gcc 12.", "small") + "\n</svg>"
 
 
