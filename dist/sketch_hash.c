@@ -1,7 +1,7 @@
-/* sketch_hash.c 3.1.0: printed from proved text. Do not edit it: tools/print_c prints it.
+/* sketch_hash.c 3.2.0: printed from proved text. Do not edit it: tools/print_c prints it.
  *
  * crate     sketch_c, and those that it depends on, of which PROVED says more
- * text      1e67cab8ae8ca06f1a8797b33293a3ce0ff09394d94c9410aad824cf867d71ea
+ * text      a68f3d5d14adc355ab4f406ebba0dff8a72a4a52fc8c69efd892b2fd7a211882
  * prover    rattle-kit-13f logic dac8208d650f15bf
  * licence   Apache-2.0
  */
@@ -1359,7 +1359,7 @@ static bool skh_bloom_has_prefix(const unsigned char *input, uint64_t input_leng
 /* ---- Calls */
 
 /* Returns the version of the library. */
-SKETCH_HASH_API uint32_t sketch_hash_version(void) { return 30100; }
+SKETCH_HASH_API uint32_t sketch_hash_version(void) { return 30200; }
 
 /* Returns XXH64 of `length` bytes. It prints as "%016" PRIx64. */
 SKETCH_HASH_API uint64_t sketch_xxh64(const void *input, size_t length, uint64_t seed) {
