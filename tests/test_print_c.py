@@ -358,6 +358,8 @@ REFUSED = {  # a function, and the words by which it is refused
     "a loop to two places": (of_two(BLOCK + seq(LOOP + seq(op(3, "Eq", copy(1), copy(2)), when(copy(3), exit_of(1)), op(4, LT, copy(
         1), copy(2)), when(copy(4), exit_of(0)), op(1, "WrapAdd", copy(1), number(1))), op(2, "WrapAdd", copy(2), number(1))),
         op(0, "WrapAdd", copy(1), copy(2)), locals=["Bool"] * 2), "left to several places"),
+    "lanes of 8 bits": (of_two(put(3, "Vec2", {"Map": "WrapAdd"}, copy(1), copy(2)), types=[W, W], locals=[
+        {"Vector": [INT[8], {"Const": 32}]}]), "Map.*WrapAdd"),
     "bytes that change": (of_two(put(3, "Opd", copy(1, BYTES)), put(place(2, BYTES), "Repeat", number(0, 8), {"Const": 8}), called(
         0, "core::int::u64::from_le_bytes", copy(3)), types=[reference(BYTES), reference(BYTES, True)], locals=[BYTES]), "bytes"),
 }
