@@ -213,6 +213,11 @@ case("fibonacci", TWO, 64, body(
     LOOP + seq(op(6, LT, L[5], L[1]), when(L[6], seq(), exit_of(0)),
                op(7, "WrapAdd", L[3], L[4]), put(3, "Opd", L[4]), put(4, "Opd", L[7]), op(5, "WrapAdd", L[5], number(1))),
     op(0, "WrapAdd", L[3], L[2])), lambda a, b: (fibonacci(a) + b) & MASK[64], [W, W, W, "Bool", W], FEW)
+case("counter_of_what_changes", TWO, 64, body(
+    put(3, "Opd", L[1]), op(1, "WrapMul", L[1], number(3)),
+    LOOP + seq(op(4, LT, L[3], number(300)), when(L[4], seq(), exit_of(0)), op(2, "WrapAdd", L[2], L[1]),
+               op(3, "WrapAdd", L[3], number(1))),
+    op(0, "WrapAdd", L[2], L[1])), lambda a, b: b + (300 - a + 1) * 3 * a, [W, "Bool"], FEW)
 case("turns_of_pairs", TWO, 64, body(
     put(3, "Aggregate", L[1], L[2]), put(4, "Opd", number(0)),
     LOOP + seq(op(5, LT, L[4], number(3)), when(L[5], seq(), exit_of(0)),

@@ -61,7 +61,6 @@ class Calls(Choices):
                   tail: bool) -> list[Leaf]:
         """Evaluates the called function here."""
         keys = {(frame.number, local) for local in s.after} | frame.caller_keys
-        keys |= {key for arg in args for key in keys_in(arg)}
         inner = self.frame(path, given, tail, keys)
         leaf.env = {key: value for key, value in leaf.env.items() if key in keys}
         for local, (arg, operand) in enumerate(zip(args, s.operands), 1):
@@ -133,10 +132,3 @@ class Calls(Choices):
             self.declare_struct(own, value, leaf)
             return variable(own)
         return expression_of(value)
-
-
-def keys_in(value: Value) -> set[Key]:
-    """The locals to which a value points."""
-    if isinstance(value, Parts):
-        return {key for part in value.parts for key in keys_in(part)}
-    return {value.key} if isinstance(value, ToLocal) else set()
