@@ -178,6 +178,12 @@ W, TWO = INT[64], [64, 64]
 FEW = lambda a, b: a < 300 and b < 300
 
 
+def kept(a, b):
+    second = a * b & MASK[64] if a < b else a
+    last = second + max(0, 138 - second) // 40 * 40
+    return ((a + 7) * (second + 9) & MASK[64]) ^ last
+
+
 def gcd(a, b):
     while b:
         a, b = b, a % b
@@ -218,6 +224,11 @@ case("counter_of_what_changes", TWO, 64, body(
     LOOP + seq(op(4, LT, L[3], number(300)), when(L[4], seq(), exit_of(0)), op(2, "WrapAdd", L[2], L[1]),
                op(3, "WrapAdd", L[3], number(1))),
     op(0, "WrapAdd", L[2], L[1])), lambda a, b: b + (300 - a + 1) * 3 * a, [W, "Bool"], FEW)
+case("kept_before_it_changes", TWO, 64, body(
+    op(3, "WrapAdd", L[1], number(7)), op(4, LT, L[1], L[2]), when(L[4], op(1, "WrapMul", L[1], L[2])),
+    op(5, "WrapAdd", L[1], number(9)),
+    LOOP + seq(op(4, LT, L[1], number(99)), when(L[4], seq(), exit_of(0)), op(1, "WrapAdd", L[1], number(40))),
+    op(0, "WrapMul", L[3], L[5]), op(0, "Xor", L[0], L[1])), kept, [W, "Bool", W])
 case("turns_of_pairs", TWO, 64, body(
     put(3, "Aggregate", L[1], L[2]), put(4, "Opd", number(0)),
     LOOP + seq(op(5, LT, L[4], number(3)), when(L[5], seq(), exit_of(0)),
