@@ -191,9 +191,9 @@ class Choices(Memory):
         here = {at: own for at, own in carried.items() if at[0] in leaf.env}
         waiting = {own: expression_of(self.part(leaf.env[key], path)) for (key, path), own in here.items()}
         waiting = {own: e for own, e in waiting.items() if e != variable(own)}
-        others = {key: leaf.env.pop(key) for key, _ in here if key in leaf.env}
+        for key, path in here:
+            leaf.put(key, path, Undefined())
         self.make_way(set(waiting), leaf)
-        leaf.env |= others
         for (key, path), own in here.items():
             leaf.put(key, path, variable(own))
         self.set_all(waiting, leaf)
