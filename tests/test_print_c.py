@@ -9,8 +9,8 @@ from conftest import DIST, ROOT
 
 PRINTER, PATH = ROOT / "tools/print_c", "sketch_hash::hash::words::"
 WIDTHS, MASK = (8, 16, 32, 64, 128), {bits: 2 ** bits - 1 for bits in (1, 8, 16, 32, 64, 128)}
-BORDERS = sorted({value for bits in (0, 7, 8, 15, 16, 31, 32, 63, 64, 127) for value in (2 ** bits - 1, 2 ** bits, 3 * 2 ** bits // 2)}
-                 | {3, 2 ** 64 - 59, 2 ** 128 - 1})
+POWERS = [2 ** bits for bits in (0, 7, 8, 15, 16, 31, 32, 63, 64, 127)]
+BORDERS = sorted({value for power in POWERS for value in (power - 1, power, 3 * power // 2)} | {3, 2 ** 64 - 59, 2 ** 128 - 1})
 VALUES = {bits: [value for value in BORDERS if value <= MASK[bits]] for bits in WIDTHS}
 
 
@@ -48,8 +48,8 @@ def slice_of(type, is_mut=False):
 
 def place(local, *steps):
     """Of each step: a field's index, a variant's as a tuple, or the type of what a pointer points to."""
-    return {"local": local, "steps": [{"Field": step} if isinstance(step, int) else {"Variant": step[0]} if isinstance(step, tuple)
-                                      else {"Deref": step} for step in steps]}
+    words = {int: "Field", tuple: "Variant", dict: "Deref"}
+    return {"local": local, "steps": [{words[type(step)]: step[0] if isinstance(step, tuple) else step} for step in steps]}
 
 
 def copy(local, *steps):
@@ -82,6 +82,7 @@ def called(local, name, *operands):
     return [{"Call": [{"Fn": [name, NO_ARGS]}, list(operands), place(local)]}]
 
 
+L = [copy(local) for local in range(9)]
 RETURN, LOOP, BLOCK = ["Return"], ["Loop"], ["Block"]
 LT = {"Lt": "Unsigned"}
 
@@ -145,35 +146,42 @@ for bits, (word, of) in itertools.product(WIDTHS, {**WRAP, **COMPARE}.items()):
     token, out, taken = UNSIGNED.get(word, word), 1 if word in COMPARE else bits, takes.get(word, lambda a, b: True)
     if bits == 128 and word not in OF_WIDE:
         continue
-    case(f"{word}{bits}".lower(), [bits, bits], out, body(op(0, token, copy(1), copy(2))), wrapping(of, out), takes=taken)
+    case(f"{word}{bits}".lower(), [bits, bits], out, body(op(0, token, L[1], L[2])), wrapping(of, out), takes=taken)
     for i, value in enumerate(CONSTANTS.get(bits, [])):  # with a constant on either side, inside of another operation
         if word not in ("Shl", "Shr") and word not in COMPARE:
-            case(f"{word}{bits}_by_{i}".lower(), [bits], bits, body(op(2, token, copy(1), number(value, bits)), op(
-                 3, UNSIGNED["Shr"], copy(2), number(1, bits)), op(0, "WrapAdd", copy(3), copy(2))),
-                 lambda a, f=of, v=value, n=bits: ((f(a, v) & MASK[n]) >> 1) + f(a, v) & MASK[n], [INT[bits]] * 2)
+            case(f"{word}{bits}_by_{i}".lower(), [bits], bits, body(
+                op(2, token, L[1], number(value, bits)), op(3, UNSIGNED["Shr"], L[2], number(1, bits)),
+                op(0, "WrapAdd", L[3], L[2])),
+                lambda a, f=of, v=value, n=bits: ((f(a, v) & MASK[n]) >> 1) + f(a, v) & MASK[n], [INT[bits]] * 2)
         if word in COMPARE:
-            case(f"{word}{bits}_to_{i}".lower(), [bits], 1, body(op(2, "WrapSub", copy(1), number(value, bits)), op(
-                 0, token, copy(2), number(value, bits))), lambda a, f=of, v=value, n=bits: f((a - v) & MASK[n], v), [INT[bits]])
+            case(f"{word}{bits}_to_{i}".lower(), [bits], 1, body(
+                op(2, "WrapSub", L[1], number(value, bits)), op(0, token, L[2], number(value, bits))),
+                lambda a, f=of, v=value, n=bits: f((a - v) & MASK[n], v), [INT[bits]])
 for bits in WIDTHS[:4]:
-    case(f"not{bits}", [bits], bits, body(op(0, "Not", copy(1))), lambda a, n=bits: ~a & MASK[n])
-    case(f"not_shifted{bits}", [bits], bits, body(op(2, "Not", copy(1)), op(0, UNSIGNED["Shr"], copy(2), number(1, bits))),
+    case(f"not{bits}", [bits], bits, body(op(0, "Not", L[1])), lambda a, n=bits: ~a & MASK[n])
+    case(f"not_shifted{bits}", [bits], bits, body(op(2, "Not", L[1]), op(0, UNSIGNED["Shr"], L[2], number(1, bits))),
          lambda a, n=bits: (~a & MASK[n]) >> 1, [INT[bits]])
-    case(f"small_shifted{bits}", [bits, bits], bits, body(op(3, LT, copy(1), copy(2)), when(copy(3), put(4, "Opd", number(1, bits)),
-         put(4, "Opd", number(2, bits))), op(0, "Shl", copy(4), number(bits - 3, bits))),
-         lambda a, b, n=bits: (1 if a < b else 2) << n - 3, ["Bool", INT[bits]])
+    case(f"small_shifted{bits}", [bits, bits], bits, body(
+        op(3, LT, L[1], L[2]), when(L[3], put(4, "Opd", number(1, bits)), put(4, "Opd", number(2, bits))),
+        op(0, "Shl", L[4], number(bits - 3, bits))), lambda a, b, n=bits: (1 if a < b else 2) << n - 3, ["Bool", INT[bits]])
 for of, to in itertools.product(WIDTHS, WIDTHS):
     if of == to or of == 128 and to < 64 or to == 128 and of < 64:
         continue
     cast, back = ({"Cast": ["Unsigned", "Unsigned", bits]} for bits in (to, of))
-    case(f"cast{of}_to_{to}", [of], to, body(op(0, cast, copy(1))), lambda a, n=to: a & MASK[n])
-    case(f"cast{of}_to_{to}_and_back", [of], of, body(op(2, cast, copy(1)), op(0, back, copy(2))),
+    case(f"cast{of}_to_{to}", [of], to, body(op(0, cast, L[1])), lambda a, n=to: a & MASK[n])
+    case(f"cast{of}_to_{to}_and_back", [of], of, body(op(2, cast, L[1]), op(0, back, L[2])),
          lambda a, n=to: a & MASK[n], [INT[to]])
 
 # ---- Shapes
 
 W, TWO = INT[64], [64, 64]
-FEW = {"takes": lambda a, b: a < 300 and b < 300}
-INCREMENT = op(1, "WrapSub", copy(1), number(1))
+FEW = lambda a, b: a < 300 and b < 300
+
+
+def kept(a, b):
+    second = a * b & MASK[64] if a < b else a
+    last = second + max(0, 138 - second) // 40 * 40
+    return ((a + 7) * (second + 9) & MASK[64]) ^ last
 
 
 def gcd(a, b):
@@ -182,31 +190,55 @@ def gcd(a, b):
     return a
 
 
-case("max_by_if", TWO, 64, body(op(3, LT, copy(1), copy(2)), when(copy(3), put(0, "Opd", copy(2)), put(0, "Opd", copy(1)))), max, ["Bool"])
-case("swap_by_if", TWO, 64, body(op(3, LT, copy(1), copy(2)), when(copy(3), seq(put(4, "Opd", copy(1)), put(
-     1, "Opd", copy(2)), put(2, "Opd", copy(4)))), op(0, "WrapSub", copy(1), copy(2))), lambda a, b: abs(a - b), ["Bool", W])
-case("swap_of_pairs", TWO, 64, body(op(3, LT, copy(1), copy(2)), when(copy(3), put(4, "Aggregate", copy(2), copy(1)), put(
-     4, "Aggregate", copy(1), copy(2))), op(5, "WrapMul", copy(4, 0), number(3)), op(0, "WrapSub", copy(5), copy(4, 1))),
-     wrapping(lambda a, b: 3 * max(a, b) - min(a, b), 64), ["Bool", PAIR, W])
-case("switch", TWO, 64, body([{"Switch": [copy(1), [[0], [1, 127], [2 ** 31, 2 ** 63]], True]}, *put(0, "Opd", number(5)), *put(
-     0, "Opd", copy(2)), *put(0, "Opd", copy(1)), *op(0, "Xor", copy(1), copy(2))]),
-     lambda a, b: {0: 5, 1: b, 127: b, 2 ** 31: a, 2 ** 63: a}.get(a, a ^ b))
-for name, first, second in (("and", seq(), exit_of(0)), ("or", exit_of(0), seq())):
-    case(f"by_{name}", TWO, 1, body(put(0, "Opd", "True" if name == "or" else "False"), op(3, LT, copy(1), number(255)), BLOCK + seq(
-         when(copy(3), first, second), op(4, LT, copy(2), number(2 ** 31)), put(0, "Opd", copy(4)))),
-         lambda a, b, every=name == "and": (a < 255 and b < 2 ** 31) if every else (a < 255 or b < 2 ** 31), ["Bool"] * 2)
-case("gcd", TWO, 64, body(LOOP + seq(op(3, "Eq", copy(2), number(0)), when(copy(3), exit_of(0)), op(4, UNSIGNED["Rem"], copy(1), copy(
-     2)), put(1, "Opd", copy(2)), put(2, "Opd", copy(4))), put(0, "Opd", copy(1))), gcd, ["Bool", W])
-case("fibonacci", TWO, 64, body(put(3, "Opd", number(0)), put(4, "Opd", number(1)), put(5, "Opd", number(0)), LOOP + seq(
-     op(6, LT, copy(5), copy(1)), when(copy(6), seq(), exit_of(0)), op(7, "WrapAdd", copy(3), copy(4)), put(3, "Opd", copy(4)), put(
-         4, "Opd", copy(7)), op(5, "WrapAdd", copy(5), number(1))), op(0, "WrapAdd", copy(3), copy(2))),
-     lambda a, b: (fibonacci(a) + b) & MASK[64], [W, W, W, "Bool", W], **FEW)
-case("turns_of_pairs", TWO, 64, body(put(3, "Aggregate", copy(1), copy(2)), put(4, "Opd", number(0)), LOOP + seq(
-     op(5, LT, copy(4), number(3)), when(copy(5), seq(), exit_of(0)), put(3, "Aggregate", copy(3, 1), copy(3, 0)), op(
-         4, "WrapAdd", copy(4), number(1))), op(0, "WrapSub", copy(3, 0), copy(3, 1))), wrapping(lambda a, b: b - a, 64), [PAIR, W, "Bool"])
-case("early_return", TWO, 64, body(put(3, "Opd", number(0)), LOOP + seq(op(4, "WrapMul", copy(3), copy(3)), op(5, LT, copy(4), copy(
-     1)), when(copy(5), seq(), seq(op(0, "WrapAdd", copy(3), copy(2)), RETURN)), op(3, "WrapAdd", copy(3), number(1)))),
-     lambda a, b: b + next(i for i in range(99) if i * i >= a), [W, W, "Bool"], **FEW)
+case("max_by_if", TWO, 64, body(
+    op(3, LT, L[1], L[2]), when(L[3], put(0, "Opd", L[2]), put(0, "Opd", L[1]))), max, ["Bool"])
+case("swap_by_if", TWO, 64, body(
+    op(3, LT, L[1], L[2]), when(L[3], seq(put(4, "Opd", L[1]), put(1, "Opd", L[2]), put(2, "Opd", L[4]))),
+    op(0, "WrapSub", L[1], L[2])), lambda a, b: abs(a - b), ["Bool", W])
+case("swap_of_pairs", TWO, 64, body(
+    op(3, LT, L[1], L[2]), when(L[3], put(4, "Aggregate", L[2], L[1]), put(4, "Aggregate", L[1], L[2])),
+    op(5, "WrapMul", copy(4, 0), number(3)), op(0, "WrapSub", L[5], copy(4, 1))),
+    wrapping(lambda a, b: 3 * max(a, b) - min(a, b), 64), ["Bool", PAIR, W])
+case("switch", TWO, 64, body(
+    [{"Switch": [L[1], [[0], [1, 127], [2 ** 31, 2 ** 63]], True]}, *put(0, "Opd", number(5)), *put(0, "Opd", L[2]),
+     *put(0, "Opd", L[1]), *op(0, "Xor", L[1], L[2])]), lambda a, b: {0: 5, 1: b, 127: b, 2 ** 31: a, 2 ** 63: a}.get(a, a ^ b))
+case("by_and", TWO, 1, body(
+    put(0, "Opd", "False"), op(3, LT, L[1], number(255)),
+    BLOCK + seq(when(L[3], seq(), exit_of(0)), op(4, LT, L[2], number(2 ** 31)), put(0, "Opd", L[4]))),
+    lambda a, b: a < 255 and b < 2 ** 31, ["Bool"] * 2)
+case("by_or", TWO, 1, body(
+    put(0, "Opd", "True"), op(3, LT, L[1], number(255)),
+    BLOCK + seq(when(L[3], exit_of(0), seq()), op(4, LT, L[2], number(2 ** 31)), put(0, "Opd", L[4]))),
+    lambda a, b: a < 255 or b < 2 ** 31, ["Bool"] * 2)
+case("gcd", TWO, 64, body(
+    LOOP + seq(op(3, "Eq", L[2], number(0)), when(L[3], exit_of(0)),
+               op(4, UNSIGNED["Rem"], L[1], L[2]), put(1, "Opd", L[2]), put(2, "Opd", L[4])),
+    put(0, "Opd", L[1])), gcd, ["Bool", W])
+case("fibonacci", TWO, 64, body(
+    put(3, "Opd", number(0)), put(4, "Opd", number(1)), put(5, "Opd", number(0)),
+    LOOP + seq(op(6, LT, L[5], L[1]), when(L[6], seq(), exit_of(0)),
+               op(7, "WrapAdd", L[3], L[4]), put(3, "Opd", L[4]), put(4, "Opd", L[7]), op(5, "WrapAdd", L[5], number(1))),
+    op(0, "WrapAdd", L[3], L[2])), lambda a, b: (fibonacci(a) + b) & MASK[64], [W, W, W, "Bool", W], FEW)
+case("counter_of_what_changes", TWO, 64, body(
+    put(3, "Opd", L[1]), op(1, "WrapMul", L[1], number(3)),
+    LOOP + seq(op(4, LT, L[3], number(300)), when(L[4], seq(), exit_of(0)), op(2, "WrapAdd", L[2], L[1]),
+               op(3, "WrapAdd", L[3], number(1))),
+    op(0, "WrapAdd", L[2], L[1])), lambda a, b: b + (300 - a + 1) * 3 * a, [W, "Bool"], FEW)
+case("kept_before_it_changes", TWO, 64, body(
+    op(3, "WrapAdd", L[1], number(7)), op(4, LT, L[1], L[2]), when(L[4], op(1, "WrapMul", L[1], L[2])),
+    op(5, "WrapAdd", L[1], number(9)),
+    LOOP + seq(op(4, LT, L[1], number(99)), when(L[4], seq(), exit_of(0)), op(1, "WrapAdd", L[1], number(40))),
+    op(0, "WrapMul", L[3], L[5]), op(0, "Xor", L[0], L[1])), kept, [W, "Bool", W])
+case("turns_of_pairs", TWO, 64, body(
+    put(3, "Aggregate", L[1], L[2]), put(4, "Opd", number(0)),
+    LOOP + seq(op(5, LT, L[4], number(3)), when(L[5], seq(), exit_of(0)),
+               put(3, "Aggregate", copy(3, 1), copy(3, 0)), op(4, "WrapAdd", L[4], number(1))),
+    op(0, "WrapSub", copy(3, 0), copy(3, 1))), wrapping(lambda a, b: b - a, 64), [PAIR, W, "Bool"])
+case("early_return", TWO, 64, body(
+    put(3, "Opd", number(0)),
+    LOOP + seq(op(4, "WrapMul", L[3], L[3]), op(5, LT, L[4], L[1]),
+               when(L[5], seq(), seq(op(0, "WrapAdd", L[3], L[2]), RETURN)), op(3, "WrapAdd", L[3], number(1)))
+), lambda a, b: b + next(i for i in range(99) if i * i >= a), [W, W, "Bool"], FEW)
 
 
 def fibonacci(n):
@@ -227,44 +259,49 @@ def case_of_c(name, text, expected):
 
 def each_turn(*statements):
     """While local 3 is below the length of the slice in local 1."""
-    return LOOP + seq(op(4, LT, copy(3), copy(1, 1)), when(copy(4), seq(), exit_of(0)), *statements, op(3, "WrapAdd", copy(3), number(1)))
+    head = [op(4, LT, L[3], copy(1, 1)), when(L[4], seq(), exit_of(0))]
+    return LOOP + seq(*head, *statements, op(3, "WrapAdd", L[3], number(1)))
 
 
 for bits in (8, 32, 64):
     cast = {"Cast": ["Unsigned", "Unsigned", 64]}
     wide = put(7, "Opd", copy(6, INT[bits])) if bits == 64 else op(7, cast, copy(6, INT[bits]))
     OTHERS[f"sum_of{bits}"] = function([slice_of(INT[bits]), W], W, [W, "Bool", W, reference(INT[bits]), W], body(
-        put(3, "Opd", number(0)), each_turn(op(5, "WrapMul", copy(3), number(bits // 8)), op(6, "Offset", copy(1, 0), copy(5)), wide,
-                                            op(2, "WrapAdd", copy(2), copy(7))), put(0, "Opd", copy(2))))
+        put(3, "Opd", number(0)), each_turn(op(5, "WrapMul", L[3], number(bits // 8)), op(6, "Offset", copy(1, 0), L[5]),
+                                            wide, op(2, "WrapAdd", L[2], L[7])), put(0, "Opd", L[2])))
     case_of_c(f"sum_of_array{bits}", f"uint64_t in[2] = {{a, b}}; return skh_sum_of{bits}((void *)in, {128 // bits}, 7);",
               lambda a, b, n=bits: 7 + sum((v >> i) & MASK[n] for v in (a, b) for i in range(0, 64, n)) & MASK[64])
 OTHERS["count_up"] = function([slice_of(INT[8], True), INT[8]], "Unit", [W, "Bool", reference(INT[8], True)], body(
-    put(3, "Opd", number(0)), each_turn(op(5, "Offset", copy(1, 0), copy(3)), put(place(5, INT[8]), "Opd", copy(2)), op(
-        2, "WrapAdd", copy(2), number(1, 8)))))
+    put(3, "Opd", number(0)), each_turn(op(5, "Offset", copy(1, 0), L[3]), put(place(5, INT[8]), "Opd", L[2]), op(
+        2, "WrapAdd", L[2], number(1, 8)))))
 case_of_c("counted_up", "unsigned char out[8]; skh_count_up(out, 8, (uint8_t)a); return skh_load64(out) ^ b;",
           lambda a, b: sum(((a + i) & 255) << 8 * i for i in range(8)) ^ b)
-OTHERS["exchange"] = function([reference(W, True), W], W, [W], body(put(3, "Opd", copy(1, W)), put(place(1, W), "Opd", copy(2)), op(
-    0, "WrapAdd", copy(3), copy(1, W))))
+OTHERS["exchange"] = function([reference(W, True), W], W, [W], body(
+    put(3, "Opd", copy(1, W)), put(place(1, W), "Opd", L[2]), op(0, "WrapAdd", L[3], copy(1, W))))
 case_of_c("exchanged", "uint64_t x = a; const uint64_t sum = skh_exchange(&x, b); return sum ^ x;",
           lambda a, b: ((a + b) & MASK[64]) ^ b)
 for bits in (16, 32, 64):
     bytes_of = {"Array": [INT[8], {"Const": bits // 8}]}
     OTHERS[f"read{bits}"] = function([slice_of(INT[8])], INT[bits], [reference(bytes_of), bytes_of], body(
-        op(2, "Offset", copy(1, 0), number(3)), put(3, "Opd", copy(2, bytes_of)), called(0, f"core::int::u{bits}::from_le_bytes", copy(3))))
-    case_of_c(f"read_bytes{bits}", f"unsigned char in[16]; skh_store64(in, a); skh_store64(in + 8, b); return skh_read{bits}(in);",
+        op(2, "Offset", copy(1, 0), number(3)), put(3, "Opd", copy(2, bytes_of)),
+        called(0, f"core::int::u{bits}::from_le_bytes", L[3])))
+    case_of_c(f"read_bytes{bits}", "unsigned char in[16]; skh_store64(in, a); skh_store64(in + 8, b); "
+              f"return skh_read{bits}(in);",
               lambda a, b, n=bits: (a + (b << 64) >> 24) & MASK[n])
-OTHERS["sum_and_difference"] = function([W, W], PAIR, [W, W], body(op(3, "WrapAdd", copy(1), copy(2)), op(
-    4, "WrapSub", copy(1), copy(2)), put(0, "Aggregate", copy(3), copy(4))))
-case("from_pair", TWO, 64, body(called(3, PATH + "sum_and_difference", copy(1), copy(2)), op(4, "WrapMul", copy(3, 0), number(3)), op(
-     0, "Xor", copy(4), copy(3, 1))), lambda a, b: (a + b) * 3 % 2 ** 64 ^ (a - b) % 2 ** 64, [PAIR, W])
-for name, type, none in (("option", OPTION, [number(0, 8)]), ("result", RESULT, [number(1, 8), copy(1)])):
-    OTHERS[f"{name}_by"] = function([W, W], type, ["Bool", W], body(op(3, "Eq", copy(2), number(0)), when(copy(3), put(
-        0, "Aggregate", *none), seq(op(4, UNSIGNED["Div"], copy(1), copy(2)), put(
-            0, "Aggregate", number(int(name == "option"), 8), copy(4))))))
+OTHERS["sum_and_difference"] = function([W, W], PAIR, [W, W], body(op(3, "WrapAdd", L[1], L[2]), op(
+    4, "WrapSub", L[1], L[2]), put(0, "Aggregate", L[3], L[4])))
+case("from_pair", TWO, 64, body(called(3, PATH + "sum_and_difference", L[1], L[2]), op(4, "WrapMul", copy(3, 0), number(3)), op(
+     0, "Xor", L[4], copy(3, 1))), lambda a, b: (a + b) * 3 % 2 ** 64 ^ (a - b) % 2 ** 64, [PAIR, W])
+for name, form, none in (("option", OPTION, [number(0, 8)]), ("result", RESULT, [number(1, 8), L[1]])):
+    OTHERS[f"{name}_by"] = function([W, W], form, ["Bool", W], body(op(3, "Eq", L[2], number(0)), when(L[3], put(
+        0, "Aggregate", *none), seq(op(4, UNSIGNED["Div"], L[1], L[2]), put(
+            0, "Aggregate", number(int(name == "option"), 8), L[4])))))
     is_some = int(name == "option")
-    case(f"from_{name}", TWO, 64, body(called(3, PATH + f"{name}_by", copy(1), copy(2)), [{"Switch": [copy(3, 0), [[is_some]], True]}, *put(
-         0, "Opd", copy(3, (is_some,), 1)), *(put(0, "Opd", number(9)) if name == "option" else op(0, "Not", copy(3, (1,), 1)))]),
-         lambda a, b, o=name == "option": a // b if b else 9 if o else ~a & MASK[64], [type])
+    case(f"from_{name}", TWO, 64, body(
+        called(3, PATH + f"{name}_by", L[1], L[2]),
+        [{"Switch": [copy(3, 0), [[is_some]], True]}, *put(0, "Opd", copy(3, (is_some,), 1)),
+         *(put(0, "Opd", number(9)) if name == "option" else op(0, "Not", copy(3, (1,), 1)))]),
+         lambda a, b, o=name == "option": a // b if b else 9 if o else ~a & MASK[64], [form])
 
 
 PROCESSORS = {"x86-64": (["gcc"], []), "32 bits": (["i686-linux-gnu-gcc", "-static"], []),
@@ -284,9 +321,9 @@ def driver(name):
     _, widths, expected, takes = CASES[name]
     rows = [row for row in itertools.product(*(VALUES[bits] for bits in widths)) if takes(*row)]
     words = ", ".join("{" + ", ".join(f"0x{v >> 64:x}u, 0x{v % 2 ** 64:x}u" for v in row) + "}" for row in rows)
-    arguments = ", ".join(f"skh_wide(in[i][{2 * j}], in[i][{2 * j + 1}])" if bits == 128 else f"(uint{bits}_t)in[i][{2 * j + 1}]"
-                          for j, bits in enumerate(widths))
-    result = f"skh_{name}({arguments})"
+    arguments = [f"skh_wide(in[i][{2 * j}], in[i][{2 * j + 1}])" if bits == 128 else f"(uint{bits}_t)in[i][{2 * j + 1}]"
+                 for j, bits in enumerate(widths)]
+    result = f"skh_{name}({', '.join(arguments)})"
     of = CASES[name][0]
     if not isinstance(of, str) and of["locals"][0]["ty"] == INT[128]:
         shown = f"skh_uint128 x = {result}; printf(\"%016llx%016llx\\n\", (unsigned long long)skh_wide_high(x), " \
@@ -304,7 +341,8 @@ def test_each_operation_width_and_shape_computes_what_is_meant(processor, need, 
     tests = {name: driver(name) for name in CASES}
     text = printed({**OTHERS, **{name: own[0] for name, own in CASES.items() if not isinstance(own[0], str)}})
     text += "".join(own[0] for own in CASES.values() if isinstance(own[0], str)) + "".join(text for text, _ in tests.values())
-    output = run(compiler, runner, f"{text}int main(void) {{ {' '.join(f'test_{name}();' for name in tests)} return 0; }}", tmp_path)
+    main = f"int main(void) {{ {' '.join(f'test_{name}();' for name in tests)} return 0; }}"
+    output = run(compiler, runner, text + main, tmp_path)
     expected = [(name, line) for name, (_, lines) in tests.items() for line in lines]
     wrong = {name for (name, line), got in zip(expected, output, strict=True) if line != got}
     assert not wrong
@@ -323,43 +361,49 @@ REFUSED = {  # a function, and the words by which it is refused
     "a number's width": (of_two(put(0, "Opd", number(1, 24))), "operand Int"),
     "a length that is no number": (of_two(types=[reference({"Array": [INT[8], INT[64]]})]), "in place of a number"),
     "how a reference is": (of_two(types=[{"Ref": ["'a", "Raw", W]}]), "type Ref"),
-    "an operation": (of_two(op(0, "Max", copy(1), copy(2))), "operation Max"),
-    "an operation on one": (of_two(op(0, "Neg", copy(1))), "operation Neg"),
-    **{f"{word} with a sign": (of_two(op(0, {word: "Signed"}, copy(1), copy(2))), f"{word}.*Signed") for word in UNSIGNED},
-    "no word on the sign": (of_two(op(0, "Shr", copy(1), copy(2))), "operation Shr"),
-    "a cast from a sign": (of_two(op(0, {"Cast": ["Signed", "Unsigned", 64]}, copy(1))), "Cast.*Signed"),
-    "a cast to a sign": (of_two(op(0, {"Cast": ["Unsigned", "Signed", 64]}, copy(1))), "Cast.*Signed"),
-    "a cast to a width": (of_two(op(0, {"Cast": ["Unsigned", "Unsigned", 24]}, copy(1))), "Cast.*24"),
-    "two widths": (of_two(op(0, "WrapAdd", copy(1), copy(2)), types=[W, HALF]), r"\+ of uint64_t and uint32_t"),
-    "a shift by another width": (of_two(op(0, "Shl", copy(1), copy(2)), types=[W, HALF]), "<< of uint64_t and uint32_t"),
-    "a shift by the width": (of_two(op(0, "Shl", copy(1), number(64))), "<< by 64"),
-    "a division by 0": (of_two(op(0, UNSIGNED["Div"], copy(1), number(0))), "/ by 0"),
-    **{f"{word} of 128 bits": (of_two(op(0, word, copy(1), copy(2)), types=[INT[128]] * 2, result=INT[128]), f"{sign} of 128 bits")
+    "an operation": (of_two(op(0, "Max", L[1], L[2])), "operation Max"),
+    "an operation on one": (of_two(op(0, "Neg", L[1])), "operation Neg"),
+    **{f"{word} with a sign": (of_two(op(0, {word: "Signed"}, L[1], L[2])), f"{word}.*Signed") for word in UNSIGNED},
+    "no word on the sign": (of_two(op(0, "Shr", L[1], L[2])), "operation Shr"),
+    "a cast from a sign": (of_two(op(0, {"Cast": ["Signed", "Unsigned", 64]}, L[1])), "Cast.*Signed"),
+    "a cast to a sign": (of_two(op(0, {"Cast": ["Unsigned", "Signed", 64]}, L[1])), "Cast.*Signed"),
+    "a cast to a width": (of_two(op(0, {"Cast": ["Unsigned", "Unsigned", 24]}, L[1])), "Cast.*24"),
+    "two widths": (of_two(op(0, "WrapAdd", L[1], L[2]), types=[W, HALF]), r"\+ of uint64_t and uint32_t"),
+    "a shift by another width": (of_two(op(0, "Shl", L[1], L[2]), types=[W, HALF]), "<< of uint64_t and uint32_t"),
+    "a shift by the width": (of_two(op(0, "Shl", L[1], number(64))), "<< by 64"),
+    "a division by 0": (of_two(op(0, UNSIGNED["Div"], L[1], number(0))), "/ by 0"),
+    **{f"{word} of 128 bits": (of_two(op(0, word, L[1], L[2]), types=[INT[128]] * 2, result=INT[128]),
+                               f"{sign} of 128 bits")
        for word, sign in (("WrapSub", "-"), ("Xor", r"\^"), ("And", "&"))},
-    "~ of 128 bits": (of_two(op(0, "Not", copy(1)), types=[INT[128]], result=INT[128]), "operation Not"),
+    "~ of 128 bits": (of_two(op(0, "Not", L[1]), types=[INT[128]], result=INT[128]), "operation Not"),
     "a statement": (of_two(["Yield"]), "statement Yield"),
-    "a right side": (of_two(put(0, "Alloca", copy(1))), "right side Alloca"),
+    "a right side": (of_two(put(0, "Alloca", L[1])), "right side Alloca"),
     "an operand": (of_two(put(0, "Opd", {"Move": place(1)})), "operand Move"),
     "a step": (of_two(put(0, "Opd", {"Copy": {"local": 1, "steps": [{"Index": 2}]}})), "step of a place: Index"),
     "a home": ({**of_two(), "locals": [{"ty": W, "home": "Register"}] * 3}, "Register"),
     "words after a body": ({**of_two(), "body": body() + ["Skip"]}, "words after its body"),
-    "a token": (of_two([{"If": copy(1), "Else": copy(2)}]), "a token of mir.json"),
-    "a function": (of_two(called(0, PATH + "missing", copy(1))), "function .*missing"),
+    "a token": (of_two([{"If": L[1], "Else": L[2]}]), "a token of mir.json"),
+    "a function": (of_two(called(0, PATH + "missing", L[1])), "function .*missing"),
     "a call": (of_two([{"Call": [{"Pointer": [1, NO_ARGS]}, [], place(0)]}]), "a call of Pointer"),
     "a column of 16 bits": (of_two(types=[slice_of(INT[16])]), "form"),
     "a number at bytes": (of_two(put(0, "Opd", copy(1, HALF)), types=[reference(INT[8])]), "32.* at unsigned char"),
     "bytes at a number": (of_two(put(2, "Opd", copy(1, BYTES)), types=[reference(W)], locals=[BYTES]), "at uint64_t"),
     "half an element": (of_two(op(2, "Offset", copy(1, 0), number(4)), put(0, "Opd", copy(2, W)), types=[slice_of(W)],
                                locals=[reference(W)]), "no multiple of 8"),
-    "any offset": (of_two(op(3, "Offset", copy(1, 0), copy(2)), put(0, "Opd", copy(3, W)), types=[slice_of(W), W],
+    "any offset": (of_two(op(3, "Offset", copy(1, 0), L[2]), put(0, "Opd", copy(3, W)), types=[slice_of(W), W],
                           locals=[reference(W)]), "no multiple of 8"),
-    "a tag that is not known": (of_two(put(3, "Aggregate", copy(1), copy(2)), types=[INT[8], W], locals=[OPTION]), "unknown tag"),
-    "what was not set": (of_two(op(0, "WrapAdd", copy(3), copy(1)), locals=[W]), "Undefined"),
-    "a loop to two places": (of_two(BLOCK + seq(LOOP + seq(op(3, "Eq", copy(1), copy(2)), when(copy(3), exit_of(1)), op(4, LT, copy(
-        1), copy(2)), when(copy(4), exit_of(0)), op(1, "WrapAdd", copy(1), number(1))), op(2, "WrapAdd", copy(2), number(1))),
-        op(0, "WrapAdd", copy(1), copy(2)), locals=["Bool"] * 2), "left to several places"),
-    "bytes that change": (of_two(put(3, "Opd", copy(1, BYTES)), put(place(2, BYTES), "Repeat", number(0, 8), {"Const": 8}), called(
-        0, "core::int::u64::from_le_bytes", copy(3)), types=[reference(BYTES), reference(BYTES, True)], locals=[BYTES]), "bytes"),
+    "a tag that is not known": (of_two(put(3, "Aggregate", L[1], L[2]), types=[INT[8], W], locals=[OPTION]), "unknown tag"),
+    "what was not set": (of_two(op(0, "WrapAdd", L[3], L[1]), locals=[W]), "Undefined"),
+    "a loop to two places": (of_two(
+        BLOCK + seq(LOOP + seq(op(3, "Eq", L[1], L[2]), when(L[3], exit_of(1)), op(4, LT, L[1], L[2]), when(L[4], exit_of(0)),
+                               op(1, "WrapAdd", L[1], number(1))), op(2, "WrapAdd", L[2], number(1))),
+        op(0, "WrapAdd", L[1], L[2]), locals=["Bool"] * 2), "left to several places"),
+    "lanes of 8 bits": (of_two(put(3, "Vec2", {"Map": "WrapAdd"}, L[1], L[2]), types=[W, W], locals=[
+        {"Vector": [INT[8], {"Const": 32}]}]), "Map.*WrapAdd"),
+    "bytes that change": (of_two(
+        put(3, "Opd", copy(1, BYTES)), put(place(2, BYTES), "Repeat", number(0, 8), {"Const": 8}),
+        called(0, "core::int::u64::from_le_bytes", L[3]), types=[reference(BYTES), reference(BYTES, True)], locals=[BYTES]),
+        "bytes that are read after memory changes"),
 }
 
 

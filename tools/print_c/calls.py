@@ -61,31 +61,23 @@ class Calls(Choices):
                   tail: bool) -> list[Leaf]:
         """Evaluates the called function here."""
         keys = {(frame.number, local) for local in s.after} | frame.caller_keys
-        keys |= {key for arg in args for key in keys_in(arg)}
         inner = self.frame(path, given, tail, keys)
         leaf.env = {key: value for key, value in leaf.env.items() if key in keys}
         for local, (arg, operand) in enumerate(zip(args, s.operands), 1):
             here = frame.name(operand.local) if isinstance(operand, Place) and not operand.steps else ""
             if here and path in forms.CUTS:
                 inner.names[local] = here
-            elif here:
-                inner.hints.setdefault(local, here)
             if isinstance(arg, Expression) and arg.word == "call" and arg.args[0] in self.library.by_name:
                 arg = self.variable_for(arg, inner.name(local), leaf)  # it is called before the function
             self.define(inner, local, arg, leaf, inner.function.entry.get(local, 0))
-        code, out = leaf.code, self.run(inner, inner.function.body, leaf, False)
-        result = (inner.number, 0)
+        out, result = self.run(inner, inner.function.body, leaf, False), (inner.number, 0)
         for own in out:
             if own.target != RETURN:
                 raise Unknown(f"{path}: it ends without a return")
             own.target = END
-            own.env.setdefault(result, UNIT)
-            own.env = {key: each for key, each in own.env.items() if key[0] != inner.number or key == result}
-        if len(out) > 1 and not tail:
-            one = self.join(inner, out, code)
-            out = [one] if one else out
-        for own in out:
-            self.assign(frame, s, own.env.pop(result), own)
+            value = own.env.get(result, UNIT)
+            own.env = {key: each for key, each in own.env.items() if key[0] != inner.number}
+            self.assign(frame, s, value, own)
         return out
 
     def call_printed(self, frame: Frame, s: Statement, printed: Printed, args: list[Value], leaf: Leaf) -> Value:
@@ -108,7 +100,7 @@ class Calls(Choices):
         first, value = (Expression("member", form, (e, name)) for name, form in e.type.members)
         if e.type == forms.PAIR:
             return Parts((first, value))
-        return Choice(first, ((0, () if e.type == forms.OPTION else (value,)), (1, (value,))), e)
+        return Choice(first, ((0, (value,)), (1, (value,))), e)
 
     def arguments(self, value: Value, type: Type, leaf: Leaf) -> list[Expression]:
         if type.word == "Slice":
@@ -140,10 +132,3 @@ class Calls(Choices):
             self.declare_struct(own, value, leaf)
             return variable(own)
         return expression_of(value)
-
-
-def keys_in(value: Value) -> set[Key]:
-    """The locals to which a value points."""
-    if isinstance(value, Parts):
-        return {key for part in value.parts for key in keys_in(part)}
-    return {value.key} if isinstance(value, ToLocal) else set()

@@ -86,7 +86,7 @@ class Choices(Memory):
         leaf.facts = {fact: holds for fact, holds in first.facts.items() if all(own.facts.get(fact) == holds for own in going)}
         leaf.owned = {key: own for key, own in leaf.owned.items() if all(other.owned.get(key) == own for other in going)}
         leaf.pointers = [own for own in leaf.pointers if all(own in other.pointers for other in going)]
-        node = code[-1] if code else None
+        node = code[-1]
         if isinstance(node, When) and not node.yes and not node.no and len(going) == 2 and len(merges) == 1:
             place, _, (yes, no) = merges[0]
             if "?" not in (yes.word, no.word) and first.code is node.yes:
@@ -191,6 +191,9 @@ class Choices(Memory):
         here = {at: own for at, own in carried.items() if at[0] in leaf.env}
         waiting = {own: expression_of(self.part(leaf.env[key], path)) for (key, path), own in here.items()}
         waiting = {own: e for own, e in waiting.items() if e != variable(own)}
+        for key, path in here:
+            leaf.put(key, path, Undefined())
+        self.make_way(set(waiting), leaf)
         for (key, path), own in here.items():
             leaf.put(key, path, variable(own))
         self.set_all(waiting, leaf)

@@ -15,6 +15,9 @@ OPERATORS = {"WrapAdd": "+", "WrapSub": "-", "WrapMul": "*", "Add": "+", "Sub": 
              "Shl": "<<", "Shr": ">>", "And": "&", "Or": "|", "Xor": "^", "Eq": "==", "Ne": "!=", "Lt": "<", "Le": "<="}
 SIGNED = {"Add", "Sub", "Mul", "Div", "Rem", "Shr", "Lt", "Le"}  # which say whether their numbers have a sign
 
+# The operations on vectors, by the width of their lanes.
+LANES = {8: ("And", "Or", "Xor"), 32: ("And", "Or", "Xor", "Shl", "Shr", "WrapAdd", "WrapMul")}
+
 
 def operator_of(token: object) -> str:
     """The operator in C of an operation on numbers without a sign."""
@@ -93,7 +96,7 @@ class Body(Calls):
             return self.offset(values[0], expression_of(values[1]), leaf)
         if s.word == "Op2":
             return operation(operator_of(s.of), *map(expression_of, values))
-        return vector(s, values)
+        return vector(s, values, self.locate(frame, s.place, leaf).type)
 
     def offset(self, base: Value, offset: Expression, leaf: Leaf) -> Value:
         """A pointer so many bytes after another."""
@@ -120,12 +123,12 @@ def one(token: object, value: Expression) -> Expression:
     raise Unknown(f"operation {token} of {value.type.text}")
 
 
-def vector(s: Statement, values: list[Value]) -> Value:
+def vector(s: Statement, values: list[Value], type: Type) -> Value:
     """Vectors are words of 32 bits, see Places.read."""
     word, of = word_of(s.of)
     if s.word == "Vec1" and word == "Recast":
         return values[0]
-    if s.word == "Vec2" and word == "Map":
+    if s.word == "Vec2" and word == "Map" and word_of(of)[0] in LANES.get(type.of.bits, ()):
         return Parts(tuple(lane(operator_of(of), a, b) for a, b in zip(*map(parts_of, values), strict=True)))
     if s.word == "Vec2" and word == "Fold" and of == "Or" and value_of(values[0]) == 0:
         return Expression("any", NUMBERS[8], parts_of(values[1]))

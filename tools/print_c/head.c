@@ -39,7 +39,9 @@ static bool skh_has_avx2;
 __attribute__((constructor)) static void skh_find_avx2(void) {
     unsigned a, b, c, d;
     if (!__get_cpuid(1, &a, &b, &c, &d) || (c & bit_OSXSAVE) == 0) return;
-    __asm__ volatile("xgetbv" : "=a"(a), "=d"(d) : "c"(0)); /* whether the system saves the registers */
+    __asm__ volatile("xgetbv"
+                     : "=a"(a), "=d"(d)
+                     : "c"(0)); /* whether the system saves the registers */
     if ((a & 6) != 6 || !__get_cpuid_count(7, 0, &a, &b, &c, &d)) return;
     skh_has_avx2 = (b & bit_AVX2) != 0;
 }

@@ -16,6 +16,10 @@ class Again(Exception):
     """A local has to be in memory from its beginning: evaluate once more."""
 
 
+def has_bytes(value: Value) -> bool:
+    return isinstance(value, Bytes) or isinstance(value, Parts) and any(map(has_bytes, value.parts))
+
+
 class Memory(Places):
     def keep(self, leaf: Leaf) -> None:
         """Before memory changes, what was to be read from it is read."""
@@ -23,8 +27,11 @@ class Memory(Places):
                              for e in leaves(value) if e.reads_memory()), None):
             new = self.variable_for(found, "", leaf)
             leaf.change(lambda e: e.replaced(found, new))
-        if any(isinstance(value, Bytes) for value in leaf.env.values()):
+        if any(map(has_bytes, leaf.env.values())):
             raise Unknown(f"{self.path}: bytes that are read after memory changes")
+        held = [value for value in leaf.env.values() if isinstance(value, InMemory)]
+        if len(held) > len(set(held)):
+            raise Unknown(f"{self.path}: a copy of what is in memory, after memory changes")
         leaf.forget(lambda fact: fact.reads_memory())
 
     def do(self, name: str, args: list[Expression], leaf: Leaf) -> None:

@@ -174,7 +174,7 @@ def read_operand(token: Any) -> Operand:
     word, of = word_of(token)
     if word == "Copy":
         return read_place(of)
-    if word == "Int" and of["width"] in WIDTHS:
+    if word == "Int" and of["width"] in WIDTHS and of["value"] in range(2 ** of["width"]):
         return Constant(word, of["width"], of["value"])
     if word == "NumOf" and of[0] in WIDTHS:
         return Constant(word, of[0], read_type(of[1]))

@@ -115,6 +115,7 @@ class Places:
         own.is_set = True
         leaf.code.append(Set(place, value))
         leaf.forget(lambda fact: own in fact.variables())
+        leaf.pointers = [(held, e) for held, e in leaf.pointers if own not in held.variables() | e.variables()]
 
     def variable_for(self, e: Expression, name: str, leaf: Leaf, may_reuse: bool = False) -> Expression:
         """A variable with this value: a new one, or one of this name that nothing reads any more."""
@@ -132,7 +133,7 @@ class Places:
     def named_pointer(self, pointer: Expression, leaf: Leaf, name: str) -> Expression:
         """A pointer that is used several times, as a variable."""
         for own, e in leaf.pointers:
-            if e == pointer and not any(used.is_set for used in e.variables()):
+            if e == pointer:
                 return own
         own = self.variable_for(pointer, name, leaf, True)
         leaf.pointers.append((own, pointer))

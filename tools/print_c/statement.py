@@ -207,7 +207,8 @@ def tidy(nodes: list[Node], is_last: bool = True) -> list[Node]:
             counter = node.body[-1] if node.body and node.condition is not None else None
             if isinstance(counter, Set) and is_count(counter.place, counter.value):
                 first = next((own for own in out if isinstance(own, Declare) and counter.place == variable(own.variable)), None)
-                if first and first.variable not in reads_of(out[out.index(first) + 1:] + nodes):
+                is_same = first and (first is out[-1] or value_of(first.value) is not None)  # its value, if it comes later
+                if is_same and first.variable not in reads_of(out[out.index(first) + 1:] + nodes):
                     out.remove(first)
                     node = While(node.condition, node.body[:-1], first, counter)
         out.append(node)
