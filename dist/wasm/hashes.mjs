@@ -217,6 +217,14 @@ export function hashesOf(module) {
         return pair();
     }
 
+    function seedHash(seed) {
+        const word = checked(seed, 'a seed');
+        if (calls.sketch_seed_hash(word, result)) {
+            throw new RangeError(`the hash of the seed ${word} is 0, so sketches cannot use it: choose another seed`);
+        }
+        return module.size & 0xffff;
+    }
+
     return {
         version: VERSION,
         xxh64,
@@ -226,5 +234,6 @@ export function hashesOf(module) {
         murmur128Hex: (bytes, seed) => hex(murmur128(bytes, seed), 32),
         murmur128Bytes: (bytes, seed) => { murmur128(bytes, seed); return inMemoryOrder(); },
         Murmur128,
+        seedHash,
     };
 }

@@ -177,6 +177,13 @@ export interface Library {
     murmur128Each(bytes: Input, offsets: Offsets, seed?: Whole): BigUint64Array;
     /** An empty stream. */
     Murmur128: new (seed?: Whole) => MurmurStream;
+    /**
+     * The seed hash of a seed, by which sketches of Apache DataSketches tell whether they can be merged: the low 16 bits
+     * of the first word of Murmur, with seed 0, of the seed's eight bytes, the lowest first.
+     *
+     * @throws {RangeError} if it is 0, as of about one seed in 65,536
+     */
+    seedHash(seed: Whole): number;
 
     BloomFilter: BloomFilterConstructor;
 }

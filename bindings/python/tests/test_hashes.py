@@ -50,6 +50,16 @@ def test_each_form_of_murmur_is_of_the_same_words():
         assert hasher.digest_bytes() == sketch_hash.murmur3_x64_128_bytes(data, seed) == words
 
 
+def test_seed_hashes_are_those_of_datasketches():
+    seeds = {0: 50123, 1: 50250, 2: 49320, 3: 35596, 42: 32248, 123: 1462, 9001: 37836}
+    assert {seed: sketch_hash.seed_hash(seed) for seed in seeds} == seeds
+    with pytest.raises(ValueError, match="^the hash of the seed 50541 is 0, .*: choose another seed$"):
+        sketch_hash.seed_hash(50541)
+    for seed, error in ((-1, OverflowError), (2**64, OverflowError), ("7", TypeError)):
+        with pytest.raises(error):
+            sketch_hash.seed_hash(seed)
+
+
 def test_attributes_are_those_of_xxhash():
     ours, theirs, murmur = xxh64(seed=7), xxhash.xxh64(seed=7), murmur3_x64_128(seed=7)
     for name in ("name", "digest_size", "digestsize", "block_size", "seed"):

@@ -7,6 +7,7 @@ pub const OK: c_int = 0;
 pub const ERROR_LENGTH: c_int = -1;
 pub const ERROR_OFFSET: c_int = -2;
 pub const ERROR_COUNT: c_int = -3;
+pub const ERROR_SEED: c_int = -5;
 pub const BLOOM_HEADER_MAX: usize = 19;
 
 #[repr(C)]
@@ -104,6 +105,7 @@ calls! {
     );
     safe fn sketch_murmur3_x64_128_digest(state: &Murmur3X64_128State, hash: &mut [u64; 2]);
     safe fn sketch_murmur3_x64_128_bytes(hash: &[u64; 2], out: &mut [u8; 16]);
+    safe fn sketch_seed_hash(seed: u64, hash: &mut u16) -> c_int;
     unsafe fn sketch_murmur3_x64_128_each32(
         input: *const u8, length: usize, offsets: *const u32, offset_count: usize, seed: u64,
         out: *mut [u64; 2], count: usize, wrong_offset: &mut usize,

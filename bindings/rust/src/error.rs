@@ -22,6 +22,8 @@ pub enum Error {
     },
     /// There are fewer values than places for results.
     Count,
+    /// The seed hash is 0, which sketches take for none: choose another seed.
+    Seed,
     /// No filter of at most 128 MiB keeps the rate that was asked for.
     TooManyKeys,
     /// The input does not begin with the header of a filter.
@@ -40,6 +42,7 @@ impl Error {
             calls::ERROR_LENGTH => Error::Length,
             calls::ERROR_OFFSET => Error::Offset { index },
             calls::ERROR_COUNT => Error::Count,
+            calls::ERROR_SEED => Error::Seed,
             _ => Error::Unknown(status),
         })
     }
@@ -56,6 +59,7 @@ impl fmt::Display for Error {
                 write!(f, "the offset at {index} is missing, past the end or below the one before")
             }
             Error::Count => f.write_str("there are fewer values than places for results"),
+            Error::Seed => f.write_str("the hash of this seed is 0, so sketches cannot use it: choose another seed"),
             Error::TooManyKeys => f.write_str(
                 "no Bloom filter of at most 128 MiB keeps this rate for so many keys, or `one_in` \
                  is 0: allow more, or split the keys over several filters",

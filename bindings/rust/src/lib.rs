@@ -20,7 +20,9 @@ mod xxh64;
 pub use bloom::BloomFilter;
 pub use columns::{murmur3_x64_128_each, xxh64_each, xxh64_each_u64, Number, Offset};
 pub use error::Error;
-pub use murmur::{murmur3_x64_128, murmur3_x64_128_bytes, BuildMurmur3X64_128, Murmur3X64_128};
+pub use murmur::{
+    murmur3_x64_128, murmur3_x64_128_bytes, seed_hash, BuildMurmur3X64_128, Murmur3X64_128,
+};
 pub use xxh64::{xxh64, xxh64_u64, BuildXxh64, Xxh64};
 
 /// The version of the linked library: major * 10000 + minor * 100 + patch.

@@ -2,8 +2,9 @@
 
 use crate::calls::{
     sketch_murmur3_x64_128, sketch_murmur3_x64_128_bytes, sketch_murmur3_x64_128_digest,
-    sketch_murmur3_x64_128_update, Murmur3X64_128State,
+    sketch_murmur3_x64_128_update, sketch_seed_hash, Murmur3X64_128State,
 };
+use crate::Error;
 use core::fmt;
 use core::hash::Hasher;
 use core::mem::transmute;
@@ -33,6 +34,24 @@ pub fn murmur3_x64_128(input: &[u8], seed: u64) -> [u64; 2] {
 /// ```
 pub fn murmur3_x64_128_bytes(input: &[u8], seed: u64) -> [u8; 16] {
     bytes_of(&murmur3_x64_128(input, seed))
+}
+
+/// Returns the seed hash of a seed, by which sketches of Apache DataSketches tell whether they can be
+/// merged: the low 16 bits of the first word of MurmurHash3 x64 128, with seed 0, of the seed's eight
+/// bytes, the lowest first.
+///
+/// # Errors
+///
+/// Returns [`Error::Seed`] if it is 0, as of about one seed in 65,536.
+///
+/// ```
+/// assert_eq!(sketch_hash::seed_hash(9001), Ok(37836)); // the seed that DataSketches has by default
+/// assert_eq!(sketch_hash::seed_hash(50541), Err(sketch_hash::Error::Seed));
+/// ```
+pub fn seed_hash(seed: u64) -> Result<u16, Error> {
+    let mut hash = 0;
+    Error::check(sketch_seed_hash(seed, &mut hash), 0)?;
+    Ok(hash)
 }
 
 fn bytes_of(hash: &[u64; 2]) -> [u8; 16] {

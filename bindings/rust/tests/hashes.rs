@@ -1,7 +1,8 @@
 //! The hashes, of one call and of streams.
 
 use sketch_hash::{
-    murmur3_x64_128, xxh64, xxh64_u64, BuildMurmur3X64_128, BuildXxh64, Murmur3X64_128, Xxh64,
+    murmur3_x64_128, seed_hash, xxh64, xxh64_u64, BuildMurmur3X64_128, BuildXxh64, Error,
+    Murmur3X64_128, Xxh64,
 };
 use std::hash::{BuildHasher, Hasher};
 
@@ -49,6 +50,18 @@ fn hashes_are_the_published_ones() {
         assert_eq!(xxh64(input, seed), of_xxh64, "{name}");
         assert_eq!(murmur3_x64_128(input, seed), of_murmur, "{name}");
     }
+}
+
+/// As DataSketches computes them.
+#[test]
+fn seed_hashes_are_those_of_datasketches() {
+    let seeds =
+        [(0, 50123), (1, 50250), (2, 49320), (3, 35596), (42, 32248), (123, 1462), (9001, 37836)];
+    for (seed, hash) in seeds {
+        assert_eq!(seed_hash(seed), Ok(hash));
+    }
+    assert_eq!(seed_hash(50541), Err(Error::Seed));
+    assert!(Error::Seed.to_string().contains("choose another seed"));
 }
 
 /// Every second stream is resumed from a checkpoint after each piece.

@@ -24,6 +24,15 @@ for (const [name, input, seed, ofXxh64, ofMurmur] of [
     });
 }
 
+test('seed hashes are those of DataSketches', () => {
+    const seeds = [[0, 50123], [1, 50250], [2, 49320], [3n, 35596], [42, 32248], [123, 1462], [9001, 37836]];
+    for (const [seed, hash] of seeds) assert.equal(library.seedHash(seed), hash);
+    const message = 'the hash of the seed 50541 is 0, so sketches cannot use it: choose another seed';
+    assert.throws(() => library.seedHash(50541), { name: 'RangeError', message });
+    assert.throws(() => library.seedHash(-1), RangeError);
+    assert.throws(() => library.seedHash(), TypeError);
+});
+
 test('the bytes of Murmur are in memory order', () => {
     const expected = new Uint8Array(Buffer.from('6c1b07bc7bbc4be347939ac4a93c437a', 'hex'));
     assert.deepEqual(murmur128Bytes(fox), expected);

@@ -6,6 +6,7 @@ const library: Library = await load();
 const input: Input = new Uint8Array(8);
 const offsets: Offsets = Uint32Array.of(0, 3, 6);
 const hashes: bigint[] = [library.xxh64(input), library.murmur128(new ArrayBuffer(0), 7)];
+const ofSeed: number = library.seedHash(9001n);
 const columns: BigUint64Array[] = [
     library.xxh64Each(input, offsets, 0n),
     library.xxh64EachU64(new BigInt64Array(2)),

@@ -20,14 +20,14 @@ from ._bloom import BloomFilter
 from ._columns import column, murmur3_x64_128_each, xxh64_each
 from ._hashes import (
     murmur3_x64_128, murmur3_x64_128_bytes, murmur3_x64_128_digest, murmur3_x64_128_hexdigest,
-    murmur3_x64_128_intdigest, xxh64, xxh64_digest, xxh64_hexdigest, xxh64_intdigest,
+    murmur3_x64_128_intdigest, seed_hash, xxh64, xxh64_digest, xxh64_hexdigest, xxh64_intdigest,
 )
 
 __version__ = "3.2.0"
 __all__ = [
     "BloomFilter", "algorithms_available", "column", "murmur3_x64_128", "murmur3_x64_128_bytes",
     "murmur3_x64_128_digest", "murmur3_x64_128_each", "murmur3_x64_128_hexdigest", "murmur3_x64_128_intdigest",
-    "xxh64", "xxh64_digest", "xxh64_each", "xxh64_hexdigest", "xxh64_intdigest",
+    "seed_hash", "xxh64", "xxh64_digest", "xxh64_each", "xxh64_hexdigest", "xxh64_intdigest",
 ]
 
 algorithms_available = {"xxh64", "murmur3_x64_128"}

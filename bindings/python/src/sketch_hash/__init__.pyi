@@ -22,7 +22,7 @@ __version__: str
 __all__ = [
     "BloomFilter", "algorithms_available", "column", "murmur3_x64_128", "murmur3_x64_128_bytes",
     "murmur3_x64_128_digest", "murmur3_x64_128_each", "murmur3_x64_128_hexdigest", "murmur3_x64_128_intdigest",
-    "xxh64", "xxh64_digest", "xxh64_each", "xxh64_hexdigest", "xxh64_intdigest",
+    "seed_hash", "xxh64", "xxh64_digest", "xxh64_each", "xxh64_hexdigest", "xxh64_intdigest",
 ]
 algorithms_available: set[str]
 
@@ -59,6 +59,7 @@ def murmur3_x64_128_digest(data: ReadableBuffer, seed: SupportsIndex = 0) -> byt
 def murmur3_x64_128_each(keys: _Texts, seed: SupportsIndex = 0) -> memoryview: ...
 def murmur3_x64_128_hexdigest(data: ReadableBuffer, seed: SupportsIndex = 0) -> str: ...
 def murmur3_x64_128_intdigest(data: ReadableBuffer, seed: SupportsIndex = 0) -> int: ...
+def seed_hash(seed: SupportsIndex, /) -> int: ...
 
 @final
 class BloomFilter:

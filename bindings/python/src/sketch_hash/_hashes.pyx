@@ -1,7 +1,7 @@
 """XXH64 and MurmurHash3 x64 128: streams, and hashes in one call."""
 cimport cython
 from cpython.bytes cimport PyBytes_AS_STRING, PyBytes_FromStringAndSize
-from libc.stdint cimport uint32_t, uint64_t
+from libc.stdint cimport uint16_t, uint32_t, uint64_t
 from libc.string cimport memcpy
 
 from ._common cimport LONG, Lock, PyBuffer_Release, View, acquire, get_bytes, release, wait, word_of
@@ -333,3 +333,14 @@ def murmur3_x64_128_bytes(data, seed=0):
     cdef uint64_t hash[2]
     murmur_of(data, seed, hash)
     return lowest_first(hash)
+
+
+def seed_hash(seed):
+    """seed_hash(seed, /)\n--\n\nReturns the seed hash of a seed, by which sketches of Apache DataSketches tell whether they
+    can be merged: the low 16 bits of the first word of Murmur, with seed 0, of the seed's eight bytes, the lowest first.
+    Raises ValueError if it is 0, as of about one seed in 65,536. The seed that DataSketches has by default is 9001."""
+    cdef uint16_t hash
+    cdef uint64_t number = word_of(seed, "a seed")
+    if sketch_seed_hash(number, &hash):
+        raise ValueError(f"the hash of the seed {number} is 0, so sketches cannot use it: choose another seed")
+    return hash

@@ -1,5 +1,5 @@
 """The library for C, as sketch_hash.h declares it."""
-from libc.stdint cimport uint32_t, uint64_t
+from libc.stdint cimport uint16_t, uint32_t, uint64_t
 
 cdef extern from "c/sketch_hash.h" nogil:
     enum:
@@ -20,6 +20,8 @@ cdef extern from "c/sketch_hash.h" nogil:
     void sketch_murmur3_x64_128_update(sketch_murmur3_x64_128_state_t *, const void *, size_t)
     void sketch_murmur3_x64_128_digest(const sketch_murmur3_x64_128_state_t *, uint64_t *)
     void sketch_murmur3_x64_128_bytes(const uint64_t *, unsigned char *)
+
+    int sketch_seed_hash(uint64_t, uint16_t *)
 
     int sketch_xxh64_each32(const void *, size_t, const uint32_t *, size_t, uint64_t, void *, size_t, size_t *)
     int sketch_xxh64_each64(const void *, size_t, const uint64_t *, size_t, uint64_t, void *, size_t, size_t *)
