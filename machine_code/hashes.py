@@ -119,10 +119,11 @@ def number_call():
 def seed_hash_call():
     """With 0 it says that the seed cannot be used, and writes nothing."""
     old, hash = unknown("old", 16), cut(as_value(SEED_HASH.seed_hash(seed)), 0, 16)
-    zero, yes, no = is_zero(hash), number(1, 1), number(0, 1)
+    zero, other = is_zero(hash), complement(is_zero(hash))
     if number_in(zero) is None:
-        raise Undecided("whether a value is 0", ({zero: yes, complement(zero): no}, []), ({zero: no, complement(zero): yes}, []))
-    return Call([seed, out], [Memory(out, [old], [old if zero == yes else hash])], calls.SEED if zero == yes else calls.OK)
+        raise Undecided("whether a value is 0", *(({zero: number(n, 1), other: number(1 - n, 1)}, []) for n in (0, 1)))
+    after, status = (old, calls.SEED) if number_in(zero) else (hash, calls.OK)
+    return Call([seed, out], [Memory(out, [old], [after])], status)
 
 
 def bytes_call():
