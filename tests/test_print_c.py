@@ -393,6 +393,9 @@ REFUSED = {  # a function, and the words by which it is refused
     "any offset": (of_two(op(3, "Offset", copy(1, 0), L[2]), put(0, "Opd", copy(3, W)), types=[slice_of(W), W],
                           locals=[reference(W)]), "no multiple of 8"),
     "a tag that is not known": (of_two(put(3, "Aggregate", L[1], L[2]), types=[INT[8], W], locals=[OPTION]), "unknown tag"),
+    "a tag at a return": (of_two(
+        called(3, PATH + "option_by", L[1], L[2]), put(0, "Opd", L[3]), result=OPTION, locals=[OPTION]),
+        "an enum that is returned, whose tag is member"),
     "what was not set": (of_two(op(0, "WrapAdd", L[3], L[1]), locals=[W]), "Undefined"),
     "a loop to two places": (of_two(
         BLOCK + seq(LOOP + seq(op(3, "Eq", L[1], L[2]), when(L[3], exit_of(1)), op(4, LT, L[1], L[2]), when(L[4], exit_of(0)),
@@ -411,4 +414,4 @@ REFUSED = {  # a function, and the words by which it is refused
 def test_what_is_unknown_is_refused_by_its_name(name):
     token, message = REFUSED[name]
     with pytest.raises(P["mir"].Unknown, match=message):
-        printed({"f": token})
+        printed({**OTHERS, "f": token})

@@ -100,7 +100,7 @@ class Calls(Choices):
         first, value = (Expression("member", form, (e, name)) for name, form in e.type.members)
         if e.type == forms.PAIR:
             return Parts((first, value))
-        return Choice(first, ((0, (value,)), (1, (value,))), e)
+        return Choice(first, ((0, (value,)), (1, (value,))))
 
     def arguments(self, value: Value, type: Type, leaf: Leaf) -> list[Expression]:
         if type.word == "Slice":

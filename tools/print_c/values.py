@@ -21,11 +21,10 @@ class Parts:
 
 @dataclass(frozen=True)
 class Choice:
-    """An enum: its tag, and the fields of each variant that it may be. `whole` is the struct of C that it came in."""
+    """An enum: its tag, and the fields of each variant that it may be."""
 
     tag: Expression
     fields: tuple[tuple[int, tuple[Value, ...]], ...]
-    whole: Expression | None = None
 
 
 @dataclass(frozen=True)
@@ -75,7 +74,7 @@ def changed(value: Value, change: Callable[[Expression], Expression]) -> Value:
         return Parts(tuple(changed(part, change) for part in value.parts))
     if isinstance(value, Choice):
         fields = tuple((at, tuple(changed(part, change) for part in each)) for at, each in value.fields)
-        return Choice(change(value.tag), fields, value.whole and change(value.whole))
+        return Choice(change(value.tag), fields)
     if isinstance(value, Bytes):
         return Bytes(change(value.pointer), value.count)
     return Spelled(change(value.number)) if isinstance(value, Spelled) else value
