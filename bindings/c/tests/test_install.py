@@ -339,3 +339,27 @@ def test_cmake_takes_a_version_that_is_in_the_range(range, is_found, prefix, nee
         'message(STATUS "found: ${sketch_hash_FOUND}")']))
     found = output("cmake", "-S", tmp_path, "-B", tmp_path / "b", f"-DCMAKE_PREFIX_PATH={prefix}")
     assert f"found: {int(is_found)}" in found
+
+
+@pytest.mark.parametrize("tool", ["make", "cmake"])
+def test_the_header_for_xxhash_is_installed_for_who_asks(tool, make, need, tmp_path, monkeypatch):
+    need("cmake", "gcc", "pkg-config")
+    prefix = tmp_path / "prefix"
+    if tool == "make":
+        assert make("install-drop-in", f"PREFIX={prefix}").returncode == 0
+    else:
+        places = [f"-DCMAKE_INSTALL_PREFIX={prefix}", "-DCMAKE_INSTALL_LIBDIR=lib", "-DSKETCH_HASH_DROP_IN=ON"]
+        cmake(DIST, tmp_path / "build", *places)
+        output("cmake", "--install", tmp_path / "build")
+    added = {"include/sketch_hash/xxhash.h", "include/sketch_hash/sketch_hash.c"}
+    assert files_in(prefix) == INSTALLED | added
+    monkeypatch.setenv("PKG_CONFIG_LIBDIR", str(prefix / "lib/pkgconfig"))
+    monkeypatch.setenv("LD_LIBRARY_PATH", str(prefix / "lib"))
+    command = re.search(r"^    flags=.*\n    gcc .*$", (DIST / "README.md").read_text(), re.M)[0]
+    program = '#include <stdio.h>\n#include <xxhash.h>\nint main(void) { return XXH64("fox", 3, 0) != 0xbce6c02d5136f238u; }\n'
+    for option in ("", "#define XXH_INLINE_ALL\n"):
+        (tmp_path / "prog.c").write_text(option + program)
+        subprocess.run(["bash", "-c", command], cwd=tmp_path, check=True)
+        output(tmp_path / "prog")
+    if tool == "make":
+        assert make("uninstall", f"PREFIX={prefix}").returncode == 0 and files_in(prefix) == set()
