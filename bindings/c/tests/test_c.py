@@ -233,6 +233,27 @@ def test_two_copies_of_two_versions_do_not_mix(need, tmp_path):
         output(tmp_path / "program")
 
 
+def test_a_wrong_copy_answers_no_call_of_a_copy_with_a_namespace(wrong_copy, need, tmp_path):
+    """Linked before it, and as a shared library that is loaded first."""
+    need("gcc")
+    (tmp_path / "own.c").write_text("""#include "sketch_hash.h"
+uint64_t other(void);
+int main(void) { return sketch_xxh64("fox", 3, 0) != 0xbce6c02d5136f238u || other() == 0xbce6c02d5136f238u; }
+""")
+    (tmp_path / "other.c").write_text("""#include "sketch_hash.h"
+uint64_t other(void);
+uint64_t other(void) { return sketch_xxh64("fox", 3, 0); }
+""")
+    for name, folder, *option in (("own", INCLUDE, "-DSKETCH_HASH_NAMESPACE=mine_"), ("other", wrong_copy)):
+        text = TEXT if name == "own" else wrong_copy / "sketch_hash.c"
+        for source, to in ((tmp_path / f"{name}.c", f"{name}.o"), (text, f"text_of_{name}.o")):
+            output("gcc", *STD, *option, "-I", folder, "-c", source, "-o", tmp_path / to)
+    objects = [tmp_path / f"{name}.o" for name in ("text_of_other", "other", "own", "text_of_own")]
+    output("gcc", "-rdynamic", "-o", tmp_path / "program", *objects)
+    output(tmp_path / "program")
+    output("env", f"LD_PRELOAD={wrong_copy}/libwrong.so", tmp_path / "program")
+
+
 def test_a_plugin_does_not_export_the_calls_that_it_embeds(need, tmp_path):
     """With the option of dist/README.md. Exported calls could replace those of another version in the same process."""
     need("gcc", "nm")
