@@ -2,7 +2,7 @@
 # sketch_hash::sketch_hash_static. This file is in LIBDIR/cmake/sketch_hash, and finds the others from there.
 get_filename_component(sketch_hash_libdir "${CMAKE_CURRENT_LIST_DIR}/../.." REALPATH) # /lib may be a link to /usr/lib
 find_path(sketch_hash_include sketch_hash.h NO_DEFAULT_PATH NO_CMAKE_FIND_ROOT_PATH
-    PATHS "${sketch_hash_libdir}/../include" "${sketch_hash_libdir}/../../include")
+    PATHS "${sketch_hash_libdir}/@include_from_lib@" "${sketch_hash_libdir}/../include" "${sketch_hash_libdir}/../../include")
 set(sketch_hash_static libsketch_hash.a libsketch_hash_static.a sketch_hash_static.lib)
 set(sketch_hash libsketch_hash.so libsketch_hash.dylib libsketch_hash.dll.a sketch_hash.lib ${sketch_hash_static})
 foreach(target sketch_hash sketch_hash_static)

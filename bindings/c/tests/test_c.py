@@ -233,6 +233,27 @@ def test_two_copies_of_two_versions_do_not_mix(need, tmp_path):
         output(tmp_path / "program")
 
 
+def test_a_wrong_copy_answers_no_call_of_a_copy_with_a_namespace(wrong_copy, need, tmp_path):
+    """Linked before it, and as a shared library that is loaded first."""
+    need("gcc")
+    (tmp_path / "own.c").write_text("""#include "sketch_hash.h"
+uint64_t other(void);
+int main(void) { return sketch_xxh64("fox", 3, 0) != 0xbce6c02d5136f238u || other() == 0xbce6c02d5136f238u; }
+""")
+    (tmp_path / "other.c").write_text("""#include "sketch_hash.h"
+uint64_t other(void);
+uint64_t other(void) { return sketch_xxh64("fox", 3, 0); }
+""")
+    for name, folder, *option in (("own", INCLUDE, "-DSKETCH_HASH_NAMESPACE=mine_"), ("other", wrong_copy)):
+        text = TEXT if name == "own" else wrong_copy / "sketch_hash.c"
+        for source, to in ((tmp_path / f"{name}.c", f"{name}.o"), (text, f"text_of_{name}.o")):
+            output("gcc", *STD, *option, "-I", folder, "-c", source, "-o", tmp_path / to)
+    objects = [tmp_path / f"{name}.o" for name in ("text_of_other", "other", "own", "text_of_own")]
+    output("gcc", "-rdynamic", "-o", tmp_path / "program", *objects)
+    output(tmp_path / "program")
+    output("env", f"LD_PRELOAD={wrong_copy}/libwrong.so", tmp_path / "program")
+
+
 def test_a_plugin_does_not_export_the_calls_that_it_embeds(need, tmp_path):
     """With the option of dist/README.md. Exported calls could replace those of another version in the same process."""
     need("gcc", "nm")
@@ -242,3 +263,58 @@ def test_a_plugin_does_not_export_the_calls_that_it_embeds(need, tmp_path):
     output("gcc", "-shared", "-fPIC", "-I", INCLUDE, "-o", tmp_path / "plugin.so", tmp_path / "plugin.c", TEXT, option)
     exported = output("nm", "-D", "--defined-only", tmp_path / "plugin.so")
     assert " T plugin" in exported and "sketch_" not in exported
+
+
+# ---- The header for programs that use xxHash
+
+DROP_IN = DIST / "drop_in"
+USES = {"linked": [], "namespace": ["-DXXH_NAMESPACE=mine_"], "inline": ["-DXXH_INLINE_ALL"],
+        "inline in a namespace": ["-DXXH_INLINE_ALL", "-DXXH_NAMESPACE=mine_"], "static": ["-DXXH_STATIC_LINKING_ONLY"]}
+
+
+@pytest.mark.parametrize("compiler", ["gcc", "clang", "g++"])
+@pytest.mark.parametrize("use", USES)
+def test_a_program_for_xxhash_prints_the_same_with_our_header(use, compiler, archive, need, tmp_path):
+    need(compiler, "gcc", "xxhash.h")
+    command = [compiler, "-O2", *(["-xc++", "-std=c++17"] if compiler == "g++" else STD), HERE / "drop_in.c", "-xnone"]
+    output(*command, "-DXXH_STATIC_LINKING_ONLY", "-w", "-o", tmp_path / "theirs", "-lxxhash")
+    library = [] if "inline" in use else [archive("gcc", "-O2")]
+    output(*command, *USES[use], "-I", DROP_IN, "-I", INCLUDE, "-I", DIST, "-o", tmp_path / "ours", *library)
+    assert output(tmp_path / "ours") == output(tmp_path / "theirs")
+    assert "XXH" not in output("nm", "-g", tmp_path / "ours")
+
+
+@pytest.mark.parametrize("call", [
+    "XXH32(at, 3, 0)", "XXH32_createState() != 0", "XXH3_64bits(at, 3)", "XXH3_64bits_withSeed(at, 3, 7)",
+    "XXH3_createState() != 0",
+    "XXH128(at, 3, 0)", "XXH3_128bits(at, 3).low64", "XXH3_generateSecret(at, 136, at, 3)", "sizeof(XXH32_state_t *)",
+])
+def test_a_call_of_xxhash_that_is_not_there_does_not_compile(call, need, tmp_path):
+    """Also by a compiler that takes calls of what is not declared, and with the real library to link."""
+    need("gcc", "xxhash.h")
+    (tmp_path / "a.c").write_text(f"""#include <xxhash.h>
+int main(void) {{ static char at[999]; return (int)({call}) & (int)at[0]; }}""")
+    command = ["gcc", "-std=gnu89", "-w", "-o", tmp_path / "a", tmp_path / "a.c", "-lxxhash"]
+    output(*command)
+    done = subprocess.run([*command, "-I", DROP_IN, "-I", INCLUDE], stderr=subprocess.PIPE, text=True)
+    assert done.returncode and re.search(r"‘?'?XXH(32|3|128)(_is_not_in_sketch_hash|_state_t)'?’? undeclared", done.stderr)
+
+
+@pytest.mark.parametrize("standard", ["c90", "c99", "c11", "c2x", "c++98", "c++11", "c++20"])
+def test_the_header_for_xxhash_compiles_under_each_standard(standard, need, tmp_path):
+    need("gcc", "g++")
+    name = "a.cc" if "++" in standard else "a.c"
+    (tmp_path / name).write_text("""#include <xxhash.h>
+XXH64_hash_t fox(void);
+XXH64_hash_t fox(void) { return XXH64("fox", 3, 0); }
+""")
+    command = ["gcc", f"-std={standard}", "-pedantic-errors", *STRICT, "-c", "-o", tmp_path / "a.o", tmp_path / name]
+    output(*command, "-I", DROP_IN, "-I", INCLUDE)
+
+
+def test_two_headers_of_xxhash_are_an_error(need, tmp_path):
+    need("gcc", "xxhash.h")
+    (tmp_path / "a.c").write_text(f'#include <xxhash.h>\n#include "{DROP_IN}/xxhash.h"\n')
+    command = ["gcc", "-c", "-o", tmp_path / "a.o", tmp_path / "a.c", "-I", INCLUDE]
+    done = subprocess.run(command, stderr=subprocess.PIPE, text=True)
+    assert done.returncode and "another xxhash.h was included before that of sketch_hash" in done.stderr

@@ -10,6 +10,7 @@ from conftest import CALLS, DIST, VERSION
 
 MAJOR, MINOR, _ = map(int, VERSION.split("."))
 SHARED = f"libsketch_hash.so.{MAJOR}"
+NEW_CALLS = {"sketch_seed_hash": 2}  # in which minor version they came
 
 INSTALLED = {
     "include/sketch_hash.h", "lib/libsketch_hash.a", "lib/libsketch_hash.so", f"lib/{SHARED}",
@@ -122,10 +123,9 @@ def test_shared_library_has_a_version_for_each_call_and_a_name(compiler, make, d
     need(compiler, "nm", "readelf")
     assert make("clean").returncode == 0 and make(f"CC={compiler}").returncode == 0
     names = re.findall(r" [B-Zb-z] (\S+)$", output("nm", "-D", "--defined-only", dist / SHARED), re.M)
-    since = {"sketch_seed_hash": "3.2"}  # all others: the first version of this name
-    nodes = [f"SKETCH_HASH_{since.get(call, f'{MAJOR}.0')}" for call in CALLS]
-    assert sorted(name for name in names if "@@" in name) == [f"{call}@@{node}" for call, node in zip(CALLS, nodes)]
-    assert {name for name in names if "@@" not in name} <= set(nodes)
+    versions = {call: f"SKETCH_HASH_{MAJOR}.{NEW_CALLS.get(call, 0)}" for call in CALLS}
+    assert sorted(name for name in names if "@@" in name) == [f"{call}@@{version}" for call, version in versions.items()]
+    assert {name for name in names if "@@" not in name} <= {*versions.values()}
     headers = output("readelf", "-Wld", dist / SHARED)
     assert f"[{SHARED}]" in headers and re.search(r"GNU_STACK .* RW +0", headers)
     assert make("clean").returncode == 0
@@ -151,8 +151,8 @@ def test_pkg_config_finds_the_library(installed, need, tmp_path, monkeypatch):
 
 @pytest.fixture(params=["make", "cmake"])
 def installed(request, make, need, tmp_path):
-    """A prefix with a blank, into which make or CMake has installed: the same files."""
-    prefix = tmp_path / "installed here"
+    """A prefix with a blank and &, into which make or CMake has installed: the same files."""
+    prefix = tmp_path / "installed & here"
     if request.param == "make":
         assert make("install", f"PREFIX={prefix}").returncode == 0
     else:
@@ -243,3 +243,123 @@ def test_a_shared_library_hides_the_archive_in_it(make, dist, need, tmp_path):
     output("gcc", "-fPIC", "-shared", "-I", DIST / "include", "-o", tmp_path / "plugin.so", tmp_path / "plugin.c", archive)
     exported = output("nm", "-D", "--defined-only", tmp_path / "plugin.so")
     assert " T plugin" in exported and "sketch_" not in exported
+
+
+# ---- Folders and flags of others
+
+REFUSED = ['quote"', "back`quote", "hash#", "semi;colon"]
+
+
+@pytest.mark.parametrize("variable", ["PREFIX", "LIBDIR", "INCLUDEDIR"])
+@pytest.mark.parametrize("name", [*REFUSED, "$$dollar", "back\\slash"])
+def test_make_refuses_a_folder_that_pkg_config_would_misread(variable, name, make, tmp_path):
+    done = make("install", f"DESTDIR={tmp_path}", f"{variable}=/{name}")
+    assert done.returncode and "a file for pkg-config can name no folder with" in done.stderr
+    assert files_in(tmp_path) == set()
+
+
+@pytest.mark.parametrize("name", [*REFUSED, "$dollar"])  # of a backslash CMake itself makes a slash
+def test_cmake_refuses_a_folder_that_pkg_config_would_misread(name, need, tmp_path):
+    need("cmake", "gcc")
+    command = ["cmake", "-S", DIST, "-B", tmp_path, f"-DCMAKE_INSTALL_PREFIX=/{name}"]
+    done = subprocess.run(command, capture_output=True, text=True)
+    assert done.returncode and "a file for pkg-config can name no folder with" in " ".join(done.stderr.split())
+
+
+@pytest.mark.parametrize("tool", ["make", "cmake"])
+def test_a_prefix_with_a_bar_and_an_ampersand_is_right_for_pkg_config(tool, make, need, tmp_path, monkeypatch):
+    need("cmake", "gcc", "pkg-config")
+    prefix = tmp_path / "a|b&c d@prefix@"
+    if tool == "make":
+        assert make("install", f"PREFIX={prefix}").returncode == 0
+    else:
+        cmake(DIST, tmp_path / "build", f"-DCMAKE_INSTALL_PREFIX={prefix}", "-DCMAKE_INSTALL_LIBDIR=lib")
+        output("cmake", "--install", tmp_path / "build")
+    assert files_in(prefix) == INSTALLED
+    monkeypatch.setenv("PKG_CONFIG_LIBDIR", str(prefix / "lib/pkgconfig"))
+    assert shlex.split(output("pkg-config", "--cflags", "sketch_hash")) == [f"-I{prefix}/include"]
+    assert shlex.split(output("pkg-config", "--libs-only-L", "sketch_hash")) == [f"-L{prefix}/lib"]
+
+
+@pytest.mark.parametrize("tool", ["make", "cmake"])
+def test_the_header_may_be_in_a_folder_of_its_own(tool, make, need, tmp_path, monkeypatch):
+    """Also if another version's header is in the usual one, and if all was moved to another place."""
+    need("cmake", "gcc", "pkg-config")
+    prefix = tmp_path / "prefix"
+    if tool == "make":
+        assert make("install", f"PREFIX={prefix}", f"INCLUDEDIR={prefix}/include/sk").returncode == 0
+    else:
+        places = [f"-DCMAKE_INSTALL_PREFIX={prefix}", "-DCMAKE_INSTALL_LIBDIR=lib", "-DCMAKE_INSTALL_INCLUDEDIR=include/sk"]
+        cmake(DIST, tmp_path / "build", *places)
+        output("cmake", "--install", tmp_path / "build")
+    (prefix / "include/sketch_hash.h").write_text("#error another version")
+    prefix = prefix.rename(tmp_path / "moved")
+    (tmp_path / "project").mkdir()
+    assert cmake_project(tmp_path / "project", ["find_package(sketch_hash REQUIRED)"], f"-DCMAKE_PREFIX_PATH={prefix}") == FOX
+    monkeypatch.setenv("PKG_CONFIG_LIBDIR", str(prefix / "lib/pkgconfig"))
+    flags = output("pkg-config", "--define-prefix", "--cflags", "sketch_hash").split()
+    output("gcc", "-c", "-o", tmp_path / "fox.o", tmp_path / "project/fox.c", *flags)
+
+
+@pytest.mark.parametrize("flags", [
+    ["CFLAGS=-O2 -fvisibility=hidden"], ["CPPFLAGS=-DSKETCH_HASH_NAMESPACE=mine_"],
+    ["CC=clang", "CPPFLAGS=-DSKETCH_HASH_NAMESPACE=mine_", "CFLAGS=-O2 -fvisibility=hidden"],
+], ids=["hidden", "namespace", "both"])
+def test_the_shared_library_exports_the_calls_whatever_the_flags_are(flags, dist, need, tmp_path):
+    need("make", "gcc", *(["clang"] if "CC=clang" in flags else []))
+    copy = shutil.copytree(dist, tmp_path / "dist", ignore=shutil.ignore_patterns("*.o", "*.a", "*.so.*"))
+    done = subprocess.run(["make", "-C", copy, "check", *flags], capture_output=True, text=True)
+    assert done.returncode == 0 and done.stdout.count("OK: ") == 2, done.stdout + done.stderr
+    names = re.findall(r" T (?:mine_)?(\w+)@", output("nm", "-D", "--defined-only", copy / SHARED))
+    assert sorted(names) == CALLS
+
+
+@pytest.mark.parametrize("shared", ["ON", "OFF"])
+@pytest.mark.parametrize("parent", [
+    "set(CMAKE_C_VISIBILITY_PRESET hidden)", "add_compile_options(-fvisibility=hidden)",
+    'set(CMAKE_C_FLAGS "-fvisibility=hidden")', "add_compile_definitions(SKETCH_HASH_NAMESPACE=mine_)",
+    "set(CMAKE_INTERPROCEDURAL_OPTIMIZATION ON)\nset(CMAKE_UNITY_BUILD ON)\nset(CMAKE_C_EXTENSIONS OFF)",
+], ids=["preset", "option", "flag", "namespace", "lto"])
+def test_a_project_of_cmake_may_have_any_flags(parent, shared, need, tmp_path):
+    need("cmake", "gcc")
+    find = [parent, f'add_subdirectory("{DIST}" sketch_hash)']
+    if "definitions" in parent:
+        find.append("target_compile_definitions(fox PRIVATE SKETCH_HASH_NAMESPACE=mine_)")
+    assert cmake_project(tmp_path, find, f"-DBUILD_SHARED_LIBS={shared}") == FOX
+
+
+@pytest.mark.parametrize("range, is_found", [
+    (f"{MAJOR}.0...{MAJOR}.{MINOR}.99", True), (f"{MAJOR - 1}...{MAJOR + 1}", True), (f"{MAJOR}.0...{VERSION}", True),
+    (f"{MAJOR}.0...<{VERSION}", False), (f"{MAJOR - 1}.0...{MAJOR}.0.5", False), (f"{MAJOR}.{MINOR + 1}...{MAJOR + 2}", False),
+])
+def test_cmake_takes_a_version_that_is_in_the_range(range, is_found, prefix, need, tmp_path):
+    need("cmake 3.19")
+    (tmp_path / "CMakeLists.txt").write_text("\n".join([
+        "cmake_minimum_required(VERSION 3.19)", "project(fox C)", f"find_package(sketch_hash {range} QUIET)",
+        'message(STATUS "found: ${sketch_hash_FOUND}")']))
+    found = output("cmake", "-S", tmp_path, "-B", tmp_path / "b", f"-DCMAKE_PREFIX_PATH={prefix}")
+    assert f"found: {int(is_found)}" in found
+
+
+@pytest.mark.parametrize("tool", ["make", "cmake"])
+def test_the_header_for_xxhash_is_installed_for_who_asks(tool, make, need, tmp_path, monkeypatch):
+    need("cmake", "gcc", "pkg-config")
+    prefix = tmp_path / "prefix"
+    if tool == "make":
+        assert make("install-drop-in", f"PREFIX={prefix}").returncode == 0
+    else:
+        places = [f"-DCMAKE_INSTALL_PREFIX={prefix}", "-DCMAKE_INSTALL_LIBDIR=lib", "-DSKETCH_HASH_DROP_IN=ON"]
+        cmake(DIST, tmp_path / "build", *places)
+        output("cmake", "--install", tmp_path / "build")
+    added = {"include/sketch_hash/xxhash.h", "include/sketch_hash/sketch_hash.c"}
+    assert files_in(prefix) == INSTALLED | added
+    monkeypatch.setenv("PKG_CONFIG_LIBDIR", str(prefix / "lib/pkgconfig"))
+    monkeypatch.setenv("LD_LIBRARY_PATH", str(prefix / "lib"))
+    command = re.search(r"^    flags=.*\n    gcc .*$", (DIST / "README.md").read_text(), re.M)[0]
+    program = '#include <stdio.h>\n#include <xxhash.h>\nint main(void) { return XXH64("fox", 3, 0) != 0xbce6c02d5136f238u; }\n'
+    for option in ("", "#define XXH_INLINE_ALL\n"):
+        (tmp_path / "prog.c").write_text(option + program)
+        subprocess.run(["bash", "-c", command], cwd=tmp_path, check=True)
+        output(tmp_path / "prog")
+    if tool == "make":
+        assert make("uninstall", f"PREFIX={prefix}").returncode == 0 and files_in(prefix) == set()

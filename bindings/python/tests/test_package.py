@@ -70,11 +70,13 @@ def test_a_wrong_copy_of_the_library_answers_no_call(source, wrong_copy, tmp_pat
     flags = {"CFLAGS": f"-O0 -I{tmp_path}", "LDFLAGS": f"-L{tmp_path}"}
     done = install(source, tmp_path / "installed", **flags)
     assert done.returncode == 0, done.stdout
-    code = "from sketch_hash import *; print(xxh64_hexdigest(b'fox'), xxh64(b'fox').hexdigest(), *xxh64_each(column(['fox'])))"
+    code = """if True:
+        from sketch_hash import column, xxh64, xxh64_each, xxh64_hexdigest
+        print(xxh64_hexdigest(b"fox"), xxh64(b"fox").hexdigest(), *xxh64_each(column(["fox"])))"""
     right = run([sys.executable, "-c", code]).stdout
     preload = {"PYTHONPATH": str(tmp_path / "installed"), "LD_PRELOAD": str(wrong_copy / "libwrong.so")}
-    assert right == "bce6c02d5136f238 bce6c02d5136f238 13611778224642519608\n"
-    assert run([sys.executable, "-c", code], **preload).stdout == right
+    beside = run([sys.executable, "-c", code], **preload).stdout
+    assert beside == right == "bce6c02d5136f238 bce6c02d5136f238 13611778224642519608\n"
 
 
 @pytest.mark.parametrize("pretence, text", [
