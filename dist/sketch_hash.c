@@ -5,6 +5,18 @@
  * prover    rattle-kit-13f logic dac8208d650f15bf
  * licence   Apache-2.0
  */
+/* Whether the compiler has the attributes of GNU C: gcc from version 5 on and clang tell. Others,
+ * of which some only say that they are GNU C, get the plain way. */
+#ifdef __has_attribute
+#if __has_attribute(always_inline) && __has_attribute(noinline)
+#define SKH_IS_GNU
+#endif
+#if defined __GNUC__ && defined __x86_64__ && !defined __AVX2__ && __has_attribute(target)
+#define SKH_FINDS_AVX2
+#include <cpuid.h> /* before all others: a macro of dietlibc's is a name in it */
+#endif
+#endif
+
 #include "sketch_hash.h"
 #include <limits.h>
 #include <stdbool.h>
@@ -23,7 +35,7 @@
 /* SKH_REQUIRES says what all callers ensure: without it keys of 32 to 63 bytes take 1.1 to 1.2
  * times as long with gcc. SKH_LIKELY and SKH_UNLIKELY say what mostly holds: without them columns
  * of short keys take 1.1 to 1.4 times as long, and Murmur's updates by 1 to 3 bytes 1.1 to 1.3. */
-#if defined __GNUC__ || defined __clang__
+#ifdef SKH_IS_GNU
 #define SKH_NOINLINE __attribute__((noinline))
 #define SKH_INLINE static inline __attribute__((always_inline))
 #define SKH_REQUIRES(condition) ((condition) ? (void)0 : __builtin_unreachable())
@@ -40,8 +52,7 @@
 /* A function of which there is a second one for processors with AVX2, where the compiler can make
  * it and the program was not compiled for these processors alone. Before the constructor has run,
  * the first one is called. */
-#if defined __GNUC__ && defined __x86_64__ && !defined __AVX2__
-#include <cpuid.h>
+#ifdef SKH_FINDS_AVX2
 static bool skh_has_avx2;
 __attribute__((constructor)) static void skh_find_avx2(void) {
     unsigned a, b, c, d;
