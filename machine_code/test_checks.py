@@ -180,7 +180,8 @@ def is_noticed(runs):
 
 
 @pytest.mark.parametrize("change, reason", [
-    (("(bytes, 8, 0);", "(bytes, 8, 1);"), "what is written"), (("computed == 0", "computed == 1"), "the result"),
+    (("(bytes, 8, 0);", "(bytes, 8, 1);"), "not what the definitions say"),
+    (("computed == 0", "computed == 1"), "not what the definitions say"),
     (("*hash = computed", "hash[1] = computed"), "outside"),
 ], ids=["another seed", "another test", "another place"])
 def test_a_wrong_seed_hash_is_refused(change, reason, need, tmp_path):
