@@ -22,7 +22,7 @@ import rates
 import values
 import x86
 from conftest import DIST
-from definitions import FILTER, MURMUR, XXH64
+from definitions import FILTER, MURMUR, XXH64, of_hash
 from machine import Array, Machine
 from test_instructions import Every
 from values import Stop, add, bitwise, extend, mul, number, sub, unknown
@@ -54,8 +54,10 @@ def library_of(tmp_path_factory, need):
 
 
 @pytest.fixture(autouse=True)
-def tools(need):
-    need("linux-x86_64", "objdump", "aarch64-linux-gnu-objdump")
+def tools(request, need):
+    """The published answers need Python alone."""
+    if "published" not in request.node.name:
+        need("linux-x86_64", "objdump", "aarch64-linux-gnu-objdump")
 
 
 def refused(reason):
@@ -121,6 +123,23 @@ def test_a_function_without_a_check_is_noticed(header, library_of, monkeypatch):
     monkeypatch.setattr(library, "PARAMETERS", library.parameters_of(text))
     with refused("other functions"):
         checks.checks_of(library_of("gcc"))
+
+
+@pytest.mark.parametrize("hash", ["Xxh64", "Murmur"])
+def test_the_definitions_give_the_published_answers(hash):
+    files = "datasketches/specs/KnownAnswers.antt", "sketch_base/specs/Bytes.antt"
+    answers = dict(of_hash(hash, *files).claims(f"{hash}Answers"))
+    assert answers["verification"] and all(answers.values())
+
+
+def test_the_definitions_of_filters_give_the_published_answers():
+    files = (f"sketch_bloom/specs/{name}.antt" for name in ("Filter", "Header", "ExactRate", "Size", "KnownAnswers"))
+    known, bits = of_hash("Xxh64", *files), 0
+    answers = {name: dict(known.claims(name)) for name in ("BlockAnswers", "HeaderAnswers", "SizeAnswers")}
+    assert all(found and all(found.values()) for found in answers.values())
+    for hash in (known.hash_of([*text]) for text in (b"hello", b"filter", b"parquet", b"bloom")):
+        bits |= sum(1 << 256 * known.block_of(32, hash) + 32 * w + known.mask_bit(hash, w) for w in range(8))
+    assert bits.to_bytes(1024, "little") == bytes(known.of_parquet_mr)
 
 
 # ---- wrong definitions
