@@ -149,16 +149,26 @@ def test_pkg_config_finds_the_library(installed, need, tmp_path, monkeypatch):
     assert output("pkg-config", "--static", "--libs-only-l", "sketch_hash").split() == ["-lsketch_hash"]
 
 
+@pytest.fixture
+def install(make, need, tmp_path):
+    """Installs by make or by CMake, each with arguments of its own."""
+    def run(tool, prefix, make_args=("install",), cmake_args=()):
+        if tool == "make":
+            done = make(*make_args, f"PREFIX={prefix}")
+            assert done.returncode == 0, done.stderr
+        else:
+            need("cmake", "gcc")
+            cmake(DIST, tmp_path / "build", f"-DCMAKE_INSTALL_PREFIX={prefix}", "-DCMAKE_INSTALL_LIBDIR=lib", *cmake_args)
+            output("cmake", "--install", tmp_path / "build")
+
+    return run
+
+
 @pytest.fixture(params=["make", "cmake"])
-def installed(request, make, need, tmp_path):
+def installed(request, install, tmp_path):
     """A prefix with a blank and &, into which make or CMake has installed: the same files."""
     prefix = tmp_path / "installed & here"
-    if request.param == "make":
-        assert make("install", f"PREFIX={prefix}").returncode == 0
-    else:
-        need("cmake", "gcc")
-        cmake(DIST, tmp_path / "build", f"-DCMAKE_INSTALL_PREFIX={prefix}", "-DCMAKE_INSTALL_LIBDIR=lib")
-        output("cmake", "--install", tmp_path / "build")
+    install(request.param, prefix)
     assert files_in(prefix) == INSTALLED
     return prefix
 
@@ -267,14 +277,10 @@ def test_cmake_refuses_a_folder_that_pkg_config_would_misread(name, need, tmp_pa
 
 
 @pytest.mark.parametrize("tool", ["make", "cmake"])
-def test_a_prefix_with_a_bar_and_an_ampersand_is_right_for_pkg_config(tool, make, need, tmp_path, monkeypatch):
+def test_a_prefix_with_a_bar_and_an_ampersand_is_right_for_pkg_config(tool, install, need, tmp_path, monkeypatch):
     need("cmake", "gcc", "pkg-config")
     prefix = tmp_path / "a|b&c d@prefix@"
-    if tool == "make":
-        assert make("install", f"PREFIX={prefix}").returncode == 0
-    else:
-        cmake(DIST, tmp_path / "build", f"-DCMAKE_INSTALL_PREFIX={prefix}", "-DCMAKE_INSTALL_LIBDIR=lib")
-        output("cmake", "--install", tmp_path / "build")
+    install(tool, prefix)
     assert files_in(prefix) == INSTALLED
     monkeypatch.setenv("PKG_CONFIG_LIBDIR", str(prefix / "lib/pkgconfig"))
     assert shlex.split(output("pkg-config", "--cflags", "sketch_hash")) == [f"-I{prefix}/include"]
@@ -282,16 +288,11 @@ def test_a_prefix_with_a_bar_and_an_ampersand_is_right_for_pkg_config(tool, make
 
 
 @pytest.mark.parametrize("tool", ["make", "cmake"])
-def test_the_header_may_be_in_a_folder_of_its_own(tool, make, need, tmp_path, monkeypatch):
+def test_the_header_may_be_in_a_folder_of_its_own(tool, install, need, tmp_path, monkeypatch):
     """Also if another version's header is in the usual one, and if all was moved to another place."""
     need("cmake", "gcc", "pkg-config")
     prefix = tmp_path / "prefix"
-    if tool == "make":
-        assert make("install", f"PREFIX={prefix}", f"INCLUDEDIR={prefix}/include/sk").returncode == 0
-    else:
-        places = [f"-DCMAKE_INSTALL_PREFIX={prefix}", "-DCMAKE_INSTALL_LIBDIR=lib", "-DCMAKE_INSTALL_INCLUDEDIR=include/sk"]
-        cmake(DIST, tmp_path / "build", *places)
-        output("cmake", "--install", tmp_path / "build")
+    install(tool, prefix, ["install", f"INCLUDEDIR={prefix}/include/sk"], ["-DCMAKE_INSTALL_INCLUDEDIR=include/sk"])
     (prefix / "include/sketch_hash.h").write_text("#error another version")
     prefix = prefix.rename(tmp_path / "moved")
     (tmp_path / "project").mkdir()
@@ -342,15 +343,10 @@ def test_cmake_takes_a_version_that_is_in_the_range(range, is_found, prefix, nee
 
 
 @pytest.mark.parametrize("tool", ["make", "cmake"])
-def test_the_header_for_xxhash_is_installed_for_who_asks(tool, make, need, tmp_path, monkeypatch):
+def test_the_header_for_xxhash_is_installed_for_who_asks(tool, install, make, need, tmp_path, monkeypatch):
     need("cmake", "gcc", "pkg-config")
     prefix = tmp_path / "prefix"
-    if tool == "make":
-        assert make("install-drop-in", f"PREFIX={prefix}").returncode == 0
-    else:
-        places = [f"-DCMAKE_INSTALL_PREFIX={prefix}", "-DCMAKE_INSTALL_LIBDIR=lib", "-DSKETCH_HASH_DROP_IN=ON"]
-        cmake(DIST, tmp_path / "build", *places)
-        output("cmake", "--install", tmp_path / "build")
+    install(tool, prefix, ["install-drop-in"], ["-DSKETCH_HASH_DROP_IN=ON"])
     added = {"include/sketch_hash/xxhash.h", "include/sketch_hash/sketch_hash.c"}
     assert files_in(prefix) == INSTALLED | added
     monkeypatch.setenv("PKG_CONFIG_LIBDIR", str(prefix / "lib/pkgconfig"))
