@@ -5,7 +5,7 @@ import sys
 from pathlib import Path
 
 DOCS = Path(__file__).resolve().parents[1] / "docs"
-# A title and what is compared, with its group and its peer in speed.tsv. The first two are the same for a program that calls.
+# A title, what is compared, and its group and its peer in speed.tsv.
 PLOTS = [("XXH64", "both called", "c", "XXH64, called"),
          ("XXH64", "both inlined", "included", "XXH64, inlined"),
          ("XXH64", "ours called, xxHash inlined", "c", "XXH64, inlined"),
@@ -24,11 +24,12 @@ text { fill: #e6edf3 } .small { fill: #9da7b3 } .page { fill: #0d1117 } .slower 
 
 
 def cells():
-    """By group and peer the median for each length, as pairs, the shortest first; and the processor."""
+    """By group and peer the median for each length, as pairs, the shortest first; and the processor and the compiler."""
     table, found = (DOCS / "speed.tsv").read_text(encoding="utf-8"), {}
     for group, length, peer, ratio in re.findall(r"^(\w+)\tkeys of (\d+) bytes?\t([^\t]*)\t([\d.]+)", table, re.M):
         found.setdefault((group, peer), []).append((int(length), float(ratio)))
-    return {key: sorted(pairs) for key, pairs in found.items()}, re.search(r"processor: (.*?)(?: @|,)", table)[1]
+    processor, gcc = re.search(r"processor: (.*?)(?: @|,)", table)[1], re.search(r"compilers: gcc \(.*?\) (\d+)", table)[1]
+    return {key: sorted(pairs) for key, pairs in found.items()}, f"{processor.replace('(R)', '')}, gcc {gcc}"
 
 
 def line(kind, x1, y1, x2, y2):
@@ -67,7 +68,7 @@ def plot(title, compared, pairs):
 
 
 def picture():
-    found, processor = cells()
+    found, where = cells()
     chosen = [(title, compared, found[group, peer]) for title, compared, group, peer in PLOTS]
     ranges = "; ".join(f"{title}, {compared}: {min(r for _, r in pairs):.2f} to {max(r for _, r in pairs):.2f}"
                        for title, compared, pairs in chosen)
@@ -79,7 +80,7 @@ def picture():
     for i, (title, compared, pairs) in enumerate(chosen):
         yield f'<g transform="translate({40 + i % 2 * 205} {100 + i // 2 * 194})">'
         yield "".join(plot(title, compared, pairs)) + "</g>"
-    yield text(14, 452, f"Medians of 101 rounds, {processor.replace('(R)', '')}, gcc 12.", "small") + "\n</svg>"
+    yield text(14, 452, f"Medians of 101 rounds, {where}.", "small") + "\n</svg>"
 
 
 if __name__ == "__main__":
