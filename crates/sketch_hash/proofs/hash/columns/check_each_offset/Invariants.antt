@@ -1,6 +1,6 @@
 use Rattle.std.proofs.Common.{◌≡◌, ◌<◌, ◌∷◌, ℕ, get_or, map}
 use Rattle.sketch_hash.specs.Columns.{IsBound}
-use Rattle.sketch_hash.proofs.hash.columns.check_offsets.Given as goal
+use Rattle.sketch_hash.proofs.hash.columns.check_each_offset.Given as goal
 
 abbrev pub invariant-loop-i : goal.invariant-loop-i
 invariant-loop-i g l =
