@@ -1,7 +1,7 @@
 //! The preamble of a serialized sketch, read and written.
 
-ghost use Rattle.std.specs.Prelude.{◌≡◌, ◌⊎◌, ◌<◌, ◌≤◌, length, MatchResult};
-ghost use Rattle.datasketches.specs.ErrorValue.{memory_error};
+ghost use Rattle.std.specs.Prelude.{◌≡◌, ◌⊎◌, ◌<◌, ◌≤◌, length, IfErr, MatchResult};
+ghost use Rattle.datasketches.specs.ErrorValue.{error_of, memory_error};
 ghost use Rattle.datasketches.specs.Refusals.{Refuses};
 ghost use Rattle.datasketches.specs.SeedHash.{seed_hash, zero_seed_hash_text};
 ghost use Rattle.examples.specs.{HasPreamble, number_at, preamble};
@@ -38,10 +38,15 @@ fn read_fields(bytes: &[u8]) -> io::Result<(u8, u8, u8, u16)>
 ///
 /// Returns `InvalidData` if bytes are missing or a field is wrong, `InvalidArgument` if the seed's
 /// own hash is zero, and `OutOfMemory` with an empty message if there is no memory for the text.
+#[tactic(auto, unfolding(sketch_base::specs::Refusals::Refuses))]
 pub fn check_preamble(alloc: Global, bytes: &[u8], seed: u64) -> Result<(), Error>
-    ensures { MatchResult result
+    ensures checked { MatchResult result
         (λ _. HasPreamble seed bytes.now)
         (λ _. HasPreamble seed bytes.now → ⊥) }
+    ensures error { IfErr result (λ error. (error ≡ memory_error)
+        ⊎ (error.kind ≡ ErrorKind.InvalidData)
+        ⊎ ((seed_hash seed ≡ 0)
+        × (error ≡ error_of ErrorKind.InvalidArgument (zero_seed_hash_text seed)))) }
 {
     let short = |error| insufficient_data(alloc, "hll sketch", error);
     let (longs, version, family, actual) = read_fields(bytes).map_err(short)?;
