@@ -58,7 +58,7 @@ pub record FoldLaw : Type 0 where
   pub streams : (before after whole hashes : List ℕ) → AreBytes after → AreBytes whole →
       length whole ≡ length after → IsFoldable (length before) → Folds before after →
       StandsFor before hashes → StandsFor whole hashes → after ≡ whole
-  -- so does one that was folded several times
+  -- a filter that was folded several times stands for the same values too
   pub within : (one_in : ℕ) (before after hashes : List ℕ) → FoldsWithin one_in before after →
       StandsFor before hashes → StandsFor after hashes
 
