@@ -298,7 +298,7 @@ class TextsCall(ColumnCall):
     """To insert a column takes as many keys as its offsets bound."""
 
     def __init__(self, machine, is_insert, width):
-        missing = {"missing": [None]} if is_insert else {}
+        missing = {"missing": []} if is_insert else {}
         super().__init__(machine, f"{name_of(is_insert)}_each{width}", width, 1 - is_insert, is_insert=is_insert, **missing)
 
     def begin(self, count, offset_count):

@@ -20,7 +20,7 @@ class ColumnCall(Fixed):
         super().__init__(machine=machine, function=function, width=width, size=size, **others)
 
     length = property(lambda self: extend(unknown("length", MOST[self.width])))
-    missing = number(1), extend(unknown("missing", 58, 2)), None  # how many offsets may be missing; None is not one
+    missing = number(1), extend(unknown("missing", 58, 2))  # how many offsets may be missing
 
     def begin(self, count, offset_count):
         run = self.machine()
@@ -71,33 +71,35 @@ class ColumnCall(Fixed):
 
 
 class Offsets(Subject):
-    """The loop that checks offsets: IsFirstWrongOffset. After the last so many are missing, or any number more, or none."""
+    """What a loop over offsets needs: what is supposed of them, from the first one on."""
 
-    name, optional = "offsets", 1
+    optional = 1
 
-    def __init__(self, call, missing=None):
-        super().__init__(call=call, missing=missing)
-
-    def start(self, count):
-        if self.missing:
-            return self.call.begin(add(count, sub(self.missing, number(1))), count)
-        return self.call.begin(count, add(add(count, number(1)), extend(unknown("more", 59))))
+    def supposing(self, run, ways, first=number(0), word=None):
+        """Of the offsets from the first one on, of which the loop may have one. Returns the machine."""
+        for i, way in enumerate(ways):
+            word = self.suppose(way, add(first, number(i)), word)
+        return run
 
     def reach(self, count, done):
-        return self.supposing(self.start(count), number(0), number(0), ["right"] * done)
+        return self.supposing(self.start(count), ["right"] * done)
 
     def suggestion(self, count):
         return self.reach(count, 12)
 
-    def supposing(self, run, first, before, ways):
-        """Of the offsets from the first one on. Returns the machine."""
-        for i, way in enumerate(ways):
-            before = self.suppose(way, add(first, number(i)), before)
-        return run
+
+class Search(Offsets):
+    """The loop that looks for the first wrong offset: IsFirstWrongOffset. `start` begins a call in which there is one, and
+    `last_ways` are those in which the last offset can be wrong: none if it is missing."""
+
+    name = "search"
+
+    def __init__(self, call, start, last_ways):
+        super().__init__(call=call, start=start, last_ways=last_ways)
 
     def suppose(self, way, index, before):
         """Assumes of an offset that it is right, or below the one before, or above the length. Returns it."""
-        offset = self.call.offset(index)
+        offset, before = self.call.offset(index), before or number(0)
         if way == "below":
             assume_at_most(offset, before, 1)
         elif way == "above":
@@ -131,14 +133,9 @@ class Offsets(Subject):
             raise Stop("a right offset ends the call")
         self.call.must_fail(head.run, add(head.turns, number(done)))
 
-    def at_end(self, loop, turns, ways):
-        """At the head with the last turns to do, and what is supposed of the offsets that are left."""
-        run, words, _, _ = loop.at(turns, number(loop.last))
-        return self.supposing(run, add(turns, number(loop.done)), words[0], ways)
-
-    def must_notice(self, begin, first, count, is_last=True):
-        """A wrong offset among so many from the first one on, and behind the last ones one that is missing. `begin` gives a
-        machine for what is supposed of them."""
+    def must_notice(self, begin, first, count, last_ways=()):
+        """A wrong one among so many offsets from the first one on, or the one behind them: `begin` gives a machine for what is
+        supposed of them."""
         def fails(ways, at):
             run = begin(ways)
             run.go()
@@ -147,26 +144,109 @@ class Offsets(Subject):
         for i in range(count):
             for way in ("below", "above") if i or first != number(0) else ("above",):
                 loops.on_each_path(partial(fails, ["right"] * i + [way], i))
-        if self.missing and is_last:
-            loops.on_each_path(partial(fails, ["right"] * count, count))
+        for way in last_ways:
+            loops.on_each_path(partial(fails, ["right"] * count + [way] * (way != "missing"), count))
 
     def finish(self, loop):
-        """Before the loop, in calls that do not reach it, and of what is left. With none the keys' own loop is reached."""
-        def begin(count, ways):
-            return self.supposing(self.start(count), number(0), number(0), ways)
+        """Before the loop, and with its last turns to do."""
+        def begin(ways):
+            return self.supposing(self.start(self.some("total", loop.least)), ways)
 
-        rest, turns = int(not self.missing), loop.turns_at_end()
-        self.must_notice(partial(begin, self.some("total", loop.least)), number(0), loop.done, is_last=False)
-        for n in range(1, loop.least):
-            self.must_notice(partial(begin, number(n)), number(0), n + rest)
+        def at_end(ways):
+            run, words, _, _ = loop.at(turns, number(loop.last))
+            return self.supposing(run, ways, first, words[0])
+
+        turns = loop.turns_at_end()
         first = add(turns, number(loop.done))
-        self.must_notice(partial(self.at_end, loop, turns), first, loop.last + rest - loop.done)
+        self.must_notice(begin, number(0), loop.done)
+        self.must_notice(at_end, first, loop.last - loop.done, self.last_ways)
+
+
+class Ascent(Offsets):
+    """The loop that finds whether an offset is below the one before it. None is missing, and the last is not above the length.
+    If none is, all are right; else the first wrong one is looked for."""
+
+    name = "ascent"
+
+    def __init__(self, call, before):
+        super().__init__(call=call, before=before)
+
+    def elements_written(self, run):
+        """None; but as many offsets are compared before the loop."""
+        return self.before
+
+    def begin(self, count):
+        return self.call.begin(count, add(add(count, number(1)), extend(unknown("more", 59))))
+
+    def start(self, count):
+        run = self.begin(count)
+        assume_at_most(self.call.offset(count), self.call.length)
+        return run
+
+    def suppose(self, way, index, word):
+        """Assumes of the offset behind this one, which the word is too, that it is not below it, or that it is."""
+        after = self.call.offset(add(index, number(1)))
+        for offset in [self.call.offset(index), word][: 1 + bool(word)]:
+            if way == "below":
+                assume_at_most(after, offset, 1)
+            else:
+                assume_at_most(offset, after)
+
+    def words_after(self, n):
+        return [self.call.offset(number(n))]
+
+    def any_words(self):
+        return [extend(unknown("this offset", self.call.width))]
+
+    def ways(self, begin):
+        return ["right"]
+
+    def assume(self, head, done, way):
+        if way:
+            self.suppose(way, add(head.turns, number(done)), head.words[0])
+
+    def step(self, words, turns, done, way):
+        return [self.call.offset(add(turns, number(done + 1)))]
+
+    def leave(self, head, done, way):
+        raise Stop("a right offset ends the call")
+
+    def at_end(self, loop, turns, ways):
+        """At the head with the last turns to do, and what is supposed of the offsets that are left."""
+        run, words, _, _ = loop.at(turns, number(loop.last))
+        return self.supposing(run, ways, add(turns, number(loop.done)), words[0])
+
+    def finish(self, loop):
+        """If one falls: before the loop, in any turn, or behind the last ones; and if the last one is above the length."""
+        def above(count):
+            run = self.begin(count)
+            assume_at_most(self.call.length, self.call.offset(count), 1)
+            return run
+
+        def early(n, count):
+            return self.supposing(self.start(count), ["right"] * n + ["below"])
+
+        def in_turn(count):
+            turns = extend(unknown("turns before it falls", MOST[self.call.width]))
+            assume_at_most(turns, count, loop.last + 1)
+            return loop.at(turns, sub(count, turns), "below").run
+
+        def late(n, count):
+            return self.at_end(loop, sub(count, number(loop.last)), ["right"] * n + ["below"])
+
+        falls = [*(partial(early, n) for n in range(loop.done)), in_turn,
+                 *(partial(late, n) for n in range(loop.last - loop.done))]
+        searches = [loops.prove(lambda per: Search(self.call, above, ["above"]), [1])]
+        searches += [loops.prove(lambda per: Search(self.call, start, ["below"]), [1], searches[0]) for start in falls]
+        search = searches[0].subject
+        for n in range(1, max(each.least for each in (loop, *searches))):  # too few for one of the loops
+            search.must_notice(lambda ways: search.supposing(self.begin(number(n)), ways), number(0), n + 1)
 
     def after(self, loop, count):
         """A machine that goes on to the keys: all offsets are right. With few keys it does not come to this loop."""
         if (few := number_in(count)) is not None and few < loop.least:
-            return self.supposing(self.start(count), number(0), number(0), ["right"] * (few + 1))
-        return self.at_end(loop, sub(count, number(loop.last)), ["right"] * (loop.last + 1 - loop.done))
+            return self.supposing(self.start(count), ["right"] * few)
+        return self.at_end(loop, sub(count, number(loop.last)), ["right"] * (loop.last - loop.done))
 
 
 class Keys(Elements):
@@ -254,8 +334,15 @@ class Keys(Elements):
 
 
 def prove_offsets(call):
-    """Any number of offsets, of which some can be missing."""
-    return [loops.prove(lambda per: Offsets(call, missing), [1]) for missing in call.missing][-1]
+    """Any number of offsets, of which some can be missing. Returns the loop that the right ones pass."""
+    for missing in call.missing:
+        def start(count):
+            return call.begin(add(count, sub(missing, number(1))), count)
+
+        search = loops.prove(lambda per: Search(call, start, ["missing"]), [1])
+        for n in range(1, search.least):
+            search.subject.must_notice(lambda ways: search.subject.supposing(start(number(n)), ways), number(0), n, ["missing"])
+    return loops.first_shown(partial(loops.prove, lambda per: Ascent(call, before), [1]) for before in (0, 1))
 
 
 def prove_columns(machine, hash, width):

@@ -750,25 +750,25 @@ def test_a_call_is_within_the_blocks_of_its_keys(is_writable):
     assert (filter.offset_of(block_at(0, 0), 4) is None) == is_writable
 
 
-# ---- a loop that checks offsets, and loads each a turn ahead
+# ---- offsets: a loop that compares each with the one before it, and one that looks for the first wrong one
 
-AHEAD = """.globl sketch_bloom_insert_each64; sketch_bloom_insert_each64:
-xor edx, edx; lea r10, [r9-1]; mov rax, [r8]; 1: cmp rcx, rax; jb 2f; 3: inc rdx; cmp r10, rdx; je 4f
-mov rdi, rax; mov rax, [r8+rdx*8]; cmp rax, rdi; jae 1b
-2: mov rax, [rsp+8]; mov [rax], rdx; mov eax, -2; ret
-4: mov r11, [r8+rdx*8]; cmp r11, rax; jb 2b; cmp rcx, r11; jb 2b; ud2"""
+OFFSETS = """.globl sketch_bloom_insert_each64; sketch_bloom_insert_each64:
+lea r10, [r9-1]; cmp rcx, [r8+r10*8]; jb 2f; xor eax, eax
+1: cmp r10, rax; je 5f; mov r11, [r8+rax*8]; inc rax; cmp [r8+rax*8], r11; jae 1b
+2: xor edx, edx; xor edi, edi
+3: cmp rdx, r9; je 5f; mov rax, [r8+rdx*8]; cmp rax, rdi; jb 4f; cmp rcx, rax; jb 4f; mov rdi, rax; inc rdx; jmp 3b
+4: mov rax, [rsp+8]; mov [rax], rdx; mov eax, -2; ret"""
 
 
 @pytest.mark.parametrize("before, after, reason", [
-    ("ud2", "ud2", None), ("[r8]; 1:", "[r8]; cmp r9, 2; jne 3f; 1:", "not what the definitions say"),
-    ("jae 1b", "jmp 1b", "does not end"), ("jae 1b", "ja 1b", "depends on"), ("jb 2f", "ja 2f", "depends on"),
-    ("cmp r11, rax; jb 2b", "", "ud2"), ("cmp r11, rax; jb 2b", "cmp r11, rax; jae 6f; cmp rdx, 100; jb 2b; 6:", "ud2"),
-    ("cmp rcx, r11; jb 2b", "", "ud2"), ("mov rdi, rax", "mov rdi, rcx", "depends on"), ("eax, -2", "eax, -1", "the result"),
-    ("jb 2f; 3:", "3:", "does not end"), ("3: inc", "3: cmp rdx, 100; je 2f; inc", "a right offset ends the call"),
-    ("[r8]; 1:", "[r8]; cmp r9, 3; ja 1f; xor eax, eax; 1:", "not what the definitions say"),
-    ("xor edx", "cmp r9, 2; je 5f; xor edx", "ud2"), ("inc rdx", "add rdx, 2", "none of the subject"),
+    ("ret", "ret", None), ("[r8+r10*8]; jb 2f", "[r8+r10*8]", "outside"), ("jae 1b", "ja 1b", "depends on"),
+    ("xor eax, eax", "mov eax, 1", "outside"), ("cmp r10, rax; je", "lea r11, [r10-1]; cmp r11, rax; je", "outside"),
+    ("jae 1b", "jae 1b; cmp rax, 100; je 5f", "depends on"), ("lea r10", "cmp r9, 3; je 5f; lea r10", "ud2"),
+    ("xor edx, edx", "mov rdx, rax", "depends on"), ("xor edi, edi", "mov rdi, rcx", "depends on"),
+    ("cmp rcx, rax; jb 4f", "", "does not end"), ("cmp rax, rdi; jb 4f", "", "does not end"), ("-2", "-1", "the result"),
+    ("mov rdi, rax", "", "a right offset ends"), ("inc rdx", "add rdx, 2", "none of the subject"),
 ])
-def test_a_loop_that_is_ahead_is_followed(before, after, reason, machine_of):
-    machine = machine_of("x86-64", f"{VERSION}\n{AHEAD.replace(before, after)}; 5: ud2")
+def test_each_offset_is_looked_at(before, after, reason, machine_of):
+    machine = machine_of("x86-64", f"{VERSION}\n{OFFSETS.replace(before, after)}; 5: ud2")
     with refused(reason):
         keys.prove_offsets(filters.TextsCall(machine, True, 64))
