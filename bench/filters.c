@@ -7,15 +7,13 @@
 #include <string.h>
 #include <xxhash.h>
 
-enum { KEY = 16 };
-
 static const uint32_t salt[8] = {0x47b6137b, 0x44974d91, 0x8824ad5b, 0xa2b7289d,
                                  0x705495c7, 0x2df1424b, 0x9efc4947, 0x5c6bfb31};
 
 /* the filters' length, the keys in them, the first key of the next call */
 static size_t bytes, keys, at;
 static unsigned char *ours, *theirs, *data;
-static uint64_t *given, offsets_of_keys[KEYS + 1];
+static uint64_t *given, *offsets;
 static struct bloom libbloom;
 
 __attribute__((noinline)) static void plain_insert(uint64_t hash) {
@@ -55,7 +53,6 @@ __attribute__((noipa)) static int avx2_contains_key(const void *key, size_t leng
     return avx2_contains(XXH64(key, length, 0));
 }
 
-/* With noinline alone gcc would compile these two for keys of 16 bytes only. */
 __attribute__((noipa)) static void plain_insert_key(const void *key, size_t length) {
     plain_insert(XXH64(key, length, 0));
 }
@@ -63,6 +60,9 @@ __attribute__((noipa)) static void plain_insert_key(const void *key, size_t leng
 __attribute__((noipa)) static int plain_contains_key(const void *key, size_t length) {
     return plain_contains(XXH64(key, length, 0));
 }
+
+/* The bytes of a key, and how many there are. */
+#define KEY(i) data + offsets[i], (int)(offsets[(i) + 1] - offsets[i])
 
 /* A function for `compare`: the calls for KEYS keys of the inserted ones (`length` 0) or the others. */
 #define CALLS(NAME, CALL)                                                                          \
@@ -76,28 +76,28 @@ CALLS(insert_hash, sketch_bloom_insert_hash(ours, bytes, given[i]) + 1)
 CALLS(c_insert_hash, (plain_insert(given[i]), 1))
 CALLS(contains_hash, sketch_bloom_contains_hash(ours, bytes, given[i]))
 CALLS(c_contains_hash, plain_contains(given[i]))
-CALLS(insert_key, sketch_bloom_insert(ours, bytes, data + KEY * i, KEY) + 1)
-CALLS(c_insert_key, (plain_insert_key(data + KEY * i, KEY), 1))
+CALLS(insert_key, sketch_bloom_insert(ours, bytes, KEY(i)) + 1)
+CALLS(c_insert_key, (plain_insert_key(KEY(i)), 1))
 CALLS(v_insert_hash, (avx2_insert(given[i]), 1))
 CALLS(v_contains_hash, avx2_contains(given[i]))
-CALLS(v_insert_key, (avx2_insert_key(data + KEY * i, KEY), 1))
-CALLS(v_contains_key, avx2_contains_key(data + KEY * i, KEY))
-CALLS(libbloom_insert, (bloom_add(&libbloom, data + KEY * i, KEY), 1))
-CALLS(contains_key, sketch_bloom_contains(ours, bytes, data + KEY * i, KEY))
-CALLS(c_contains_key, plain_contains_key(data + KEY * i, KEY))
-CALLS(libbloom_contains, (bloom_check(&libbloom, data + KEY * i, KEY) != 0))
+CALLS(v_insert_key, (avx2_insert_key(KEY(i)), 1))
+CALLS(v_contains_key, avx2_contains_key(KEY(i)))
+CALLS(libbloom_insert, (bloom_add(&libbloom, KEY(i)), 1))
+CALLS(contains_key, sketch_bloom_contains(ours, bytes, KEY(i)))
+CALLS(c_contains_key, plain_contains_key(KEY(i)))
+CALLS(libbloom_contains, (bloom_check(&libbloom, KEY(i)) != 0))
 
 static uint64_t insert_column(size_t total, size_t length) {
     size_t wrong, first = (at += total) % (keys - KEYS) + length * keys;
-    sketch_bloom_insert_each64(ours, bytes, data + KEY * first, KEY * KEYS, offsets_of_keys,
-                               KEYS + 1, &wrong);
+    sketch_bloom_insert_each64(ours, bytes, data, offsets[first + KEYS], offsets + first, KEYS + 1,
+                               &wrong);
     return length == 0 ? KEYS : 0;
 }
 
 static uint64_t contains_column(size_t total, size_t length) {
     static unsigned char found[KEYS];
     size_t wrong, first = (at += total) % (keys - KEYS) + length * keys, sum = 0;
-    sketch_bloom_contains_each64(ours, bytes, data + KEY * first, KEY * KEYS, offsets_of_keys,
+    sketch_bloom_contains_each64(ours, bytes, data, offsets[first + KEYS], offsets + first,
                                  KEYS + 1, found, KEYS, &wrong);
     for (size_t i = 0; i < KEYS; i++) sum += found[i];
     return length == 0 ? sum : 0;
@@ -112,67 +112,75 @@ static unsigned char *renewed(unsigned char *filter) {
     return copy;
 }
 
-static void rows(const char *where) {
+/* The calls of the library and of its peers: to insert, and to look up. */
+static const struct {
+    const char *peer;
+    work *hash[2], *key[2], *column[2];
+} sides[] = {
+    {"",
+     {insert_hash, contains_hash},
+     {insert_key, contains_key},
+     {insert_column, contains_column}},
+    {"plain C",
+     {c_insert_hash, c_contains_hash},
+     {c_insert_key, c_contains_key},
+     {c_insert_key, c_contains_key}},
+    {"AVX2 in C",
+     {v_insert_hash, v_contains_hash},
+     {v_insert_key, v_contains_key},
+     {v_insert_key, v_contains_key}},
+    {"libbloom", {NULL}, {libbloom_insert, libbloom_contains}, {NULL}},
+};
+
+static void row(const char *action, const char *what, const char *where, const char *peer,
+                work *our_call, work *their_call) {
     char name[64];
-    static const struct {
-        const char *name, *peer;
-        work *ours, *theirs;
-        size_t other;
-    } cells[] = {
-        {"insert, hash given", "plain C", insert_hash, c_insert_hash, 0},
-        {"found, hash given", "plain C", contains_hash, c_contains_hash, 0},
-        {"absent, hash given", "plain C", contains_hash, c_contains_hash, 1},
-        {"insert, 16 bytes", "plain C", insert_key, c_insert_key, 0},
-        {"insert, 16 bytes", "libbloom", insert_key, libbloom_insert, 0},
-        {"found, 16 bytes", "plain C", contains_key, c_contains_key, 0},
-        {"found, 16 bytes", "libbloom", contains_key, libbloom_contains, 0},
-        {"absent, 16 bytes", "plain C", contains_key, c_contains_key, 1},
-        {"absent, 16 bytes", "libbloom", contains_key, libbloom_contains, 1},
-        {"insert, a column", "plain C", insert_column, c_insert_key, 0},
-        {"found, a column", "plain C", contains_column, c_contains_key, 0},
-        {"absent, a column", "plain C", contains_column, c_contains_key, 1},
-        {"insert, hash given", "AVX2 in C", insert_hash, v_insert_hash, 0},
-        {"found, hash given", "AVX2 in C", contains_hash, v_contains_hash, 0},
-        {"absent, hash given", "AVX2 in C", contains_hash, v_contains_hash, 1},
-        {"insert, 16 bytes", "AVX2 in C", insert_key, v_insert_key, 0},
-        {"found, 16 bytes", "AVX2 in C", contains_key, v_contains_key, 0},
-        {"absent, 16 bytes", "AVX2 in C", contains_key, v_contains_key, 1},
-        {"insert, a column", "AVX2 in C", insert_column, v_insert_key, 0},
-        {"found, a column", "AVX2 in C", contains_column, v_contains_key, 0},
-        {"absent, a column", "AVX2 in C", contains_column, v_contains_key, 1},
-    };
-    for (size_t i = 0; i < sizeof cells / sizeof *cells; i++) {
-        if (!strcmp(cells[i].peer, "AVX2 in C") && !__builtin_cpu_supports("avx2")) continue;
-        snprintf(name, sizeof name, "%s, %s", cells[i].name, where);
-        ours = renewed(ours), theirs = renewed(theirs);
-        compare("filter", name, cells[i].peer, cells[i].ours, cells[i].theirs, 104729 * KEYS,
-                cells[i].other, KEYS);
-    }
+    if (!their_call || (!strcmp(peer, "AVX2 in C") && !__builtin_cpu_supports("avx2"))) return;
+    snprintf(name, sizeof name, "%s, %s, %s", action, what, where);
+    ours = renewed(ours), theirs = renewed(theirs);
+    compare("filter", name, peer, our_call, their_call, 104729 * KEYS, !strcmp(action, "absent"),
+            KEYS);
 }
 
-static void filter(const char *where, size_t length, size_t count) {
+static void rows(const char *lengths, const char *where, int is_mixed) {
+    static const char *const actions[] = {"insert", "found", "absent"};
+    for (int a = 0; a < 3; a++)
+        for (size_t i = 1; i < sizeof sides / sizeof *sides; i++) {
+            const char *peer = sides[i].peer, *column = is_mixed ? "a column, mixed" : "a column";
+            if (!is_mixed)
+                row(actions[a], "hash given", where, peer, sides->hash[a > 0],
+                    sides[i].hash[a > 0]);
+            row(actions[a], lengths, where, peer, sides->key[a > 0], sides[i].key[a > 0]);
+            row(actions[a], column, where, peer, sides->column[a > 0], sides[i].column[a > 0]);
+        }
+}
+
+/* With keys of `least` to `most` bytes, of which the first eight are different. */
+static void filter(const char *where, size_t length, size_t count, unsigned least, unsigned most) {
     bytes = length, keys = count;
-    ours = calloc(1, bytes), theirs = calloc(1, bytes), data = malloc(2 * keys * KEY),
-    given = malloc(2 * keys * 8);
-    if (!ours || !theirs || !data || !given || bloom_init(&libbloom, (int)keys, 0.01)) exit(1);
+    ours = calloc(1, bytes), theirs = calloc(1, bytes), data = calloc(2 * keys + 1, most);
+    given = malloc(2 * keys * 8), offsets = calloc(2 * keys + 1, 8);
+    if (!ours || !theirs || !data || !given || !offsets) exit(1);
+    if (bloom_init(&libbloom, (int)keys, 0.01)) exit(1);
+    set_offsets(offsets, 2 * keys, least, most);
     for (size_t i = 0; i < 2 * keys; i++) {
         uint64_t words[2] = {i * 0x9e3779b97f4a7c15, i ^ i << 32};
-        memcpy(data + KEY * i, words, KEY);
-        given[i] = XXH64(data + KEY * i, KEY, 0);
+        memcpy(data + offsets[i], words, sizeof words);
+        given[i] = XXH64(KEY(i), 0);
         if (i >= keys) continue;
-        sketch_bloom_insert(ours, bytes, data + KEY * i, KEY);
+        sketch_bloom_insert(ours, bytes, KEY(i));
         plain_insert(given[i]);
-        bloom_add(&libbloom, data + KEY * i, KEY);
+        bloom_add(&libbloom, KEY(i));
     }
     if (memcmp(ours, theirs, bytes)) exit(1);
-    rows(where);
-    free(ours), free(theirs), free(data), free(given);
+    rows(least == most ? "16 bytes" : "8 to 24 bytes", where, least != most);
+    free(ours), free(theirs), free(data), free(given), free(offsets);
     bloom_free(&libbloom);
 }
 
 int main(void) {
-    for (size_t i = 0; i <= KEYS; i++) offsets_of_keys[i] = KEY * i;
-    filter("1 MiB", 1 << 20, 800000);
-    filter("128 MiB", 1 << 27, 32000000);
+    filter("1 MiB", 1 << 20, 800000, 16, 16);
+    filter("1 MiB", 1 << 20, 800000, 8, 24);
+    filter("128 MiB", 1 << 27, 32000000, 16, 16);
     return 0;
 }
