@@ -415,3 +415,14 @@ def test_what_is_unknown_is_refused_by_its_name(name):
     token, message = REFUSED[name]
     with pytest.raises(P["mir"].Unknown, match=message):
         printed({**OTHERS, "f": token})
+
+
+def test_a_variable_outside_of_its_block_is_refused():
+    own, give = P["expression"].Variable("own", P["expression"].NUMBERS[64]), P["statement"].Give
+    one, declare = P["expression"].number(1, 64), P["statement"].Declare
+    is_declared = [declare(own, one), give(P["expression"].variable(own))]
+    P["statement"].must_be_declared(is_declared, [])
+    in_an_arm = P["statement"].When(one, is_declared[:1], [])
+    for nodes in is_declared[1:], is_declared[::-1], [in_an_arm, is_declared[1]]:
+        with pytest.raises(P["mir"].Unknown, match="outside of its block: own"):
+            P["statement"].must_be_declared(nodes, [])

@@ -13,7 +13,7 @@ from mir import BOOL as FLAG
 from mir import BYTE, Crates, Given, Statement, Type, Unknown
 from source import Sources
 from statement import (Comment, Declare, Do, Give, Node, When, While, all_nodes, expressions_of, inline_once, lists_of,
-                       reads_of, tidy, without_unread)
+                       must_be_declared, reads_of, tidy, without_unread)
 from values import Parts, Value
 from write import Writer, comment
 
@@ -179,6 +179,7 @@ class Library:
         self.by_name[printed.name] = printed
         body.evaluate(values)
         printed.body = tidy(inline_once(without_unread(body.code)))
+        must_be_declared(printed.body, [*printed.parameters, *self.arrays.values()])
         reads = reads_of(printed.body)
         printed.is_used = [own in reads or bool(printed.head) for own in printed.parameters]
         for node in all_nodes(printed.body):

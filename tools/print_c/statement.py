@@ -2,9 +2,10 @@
 from __future__ import annotations
 
 from dataclasses import dataclass
-from typing import Callable, Iterator
+from typing import Callable, Iterable, Iterator
 
 from expression import CHANGES, Expression, Variable, negate, value_of, variable
+from mir import Unknown
 
 
 @dataclass(eq=False)
@@ -120,6 +121,24 @@ def reads_of(nodes: list[Node]) -> dict[Variable, int]:
                 if part.word in ("variable", "address"):
                     reads[part.args[0]] = reads.get(part.args[0], 0) + 1
     return reads
+
+
+def must_be_declared(nodes: list[Node], known: Iterable[Variable]) -> None:
+    """What is read or set is declared before it, in the same block or around it."""
+    seen = set(known)
+    for node in nodes:
+        inner, last = seen, []
+        if isinstance(node, While) and node.first and node.step:
+            must_be_declared([node.first], seen)
+            inner, last = seen | {node.first.variable}, [node.step]
+        places = [node.place] if isinstance(node, Set) else []
+        for part in (part for e in expressions_of(node) + places for part in e.parts()):
+            if part.word in ("variable", "address") and part.args[0] not in inner:
+                raise Unknown(f"a variable outside of its block: {part.args[0].name}")
+        for each in lists_of(node):
+            must_be_declared(each + last, inner)
+        if isinstance(node, Declare):
+            seen.add(node.variable)
 
 
 def without_unread(nodes: list[Node]) -> list[Node]:
