@@ -45,8 +45,8 @@ def server_of():
     """Serves a folder until the end, and returns its URL."""
     with contextlib.ExitStack() as stack:
 
-        def serve(folder):
-            handler = functools.partial(Quiet, directory=folder)
+        def serve(folder, handler=Quiet):
+            handler = functools.partial(handler, directory=folder)
             server = stack.enter_context(http.server.ThreadingHTTPServer(("127.0.0.1", 0), handler))
             threading.Thread(target=server.serve_forever, daemon=True).start()
             stack.callback(server.shutdown)
@@ -247,10 +247,51 @@ def test_a_stopped_file_stays_stopped(page):
     page.wait_for("endless", "%")
     page.press("endless", "button.stop")
     page.wait_for("endless", "stopped")
-    assert page.chromium.switch_to.active_element.text == "endless"  # the focus moves, since the button has gone
+    button = page.chromium.switch_to.active_element
+    assert (button.text, button.get_attribute("aria-label")) == ("Continue", "Continue endless")
     page.type("seed", "7")
     page.wait_for_hashes("Text", hashes(b"", 7))
     assert page.in_card("endless", ".status").text == "stopped" and page.hashes("endless") == NONE
+
+
+@pytest.mark.parametrize("seed", [0, 7])
+def test_a_stopped_file_goes_on(seed, page):
+    """Where it was, but with another seed from its beginning. A part that is left out, or hashed again, gives other hashes."""
+    part = random.Random(2).randbytes(1 << 20)
+    with open(page.folder / "long", "wb") as file:
+        file.writelines([part] * 1024)
+    xxh64, murmur = sketch_hash.xxh64(seed=seed), sketch_hash.murmur3_x64_128(seed=seed)
+    for _ in range(1024):
+        xxh64.update(part)
+        murmur.update(part)
+    page.one("input#files").send_keys(str(page.folder / "long"))
+    for _ in range(2):
+        page.wait_for("long", "%")
+        page.press("long", "button.stop")
+        page.wait_for("long", "stopped")
+        page.type("seed", str(seed))
+        page.press("long", "button.stop")
+    page.wait_for_hashes("long", (xxh64.hexdigest(), murmur.hexdigest(), murmur.digest_bytes().hex()))
+    assert not page.in_card("long", ".stop").is_displayed()
+
+
+def test_both_lines_of_a_text_are_seen(page):
+    page.one("#text").send_keys("first\nsecond")
+    assert page.run("const { scrollTop, scrollHeight, clientHeight } = arguments[0];"
+                    "return [scrollTop, scrollHeight <= clientHeight]", page.one("#text")) == [0, True]
+
+
+def test_a_policy_that_forbids_the_script_is_named(chromium, server_of):
+    class Strict(Quiet):
+        def end_headers(self):
+            self.send_header("Content-Security-Policy", "script-src 'self'")
+            super().end_headers()
+
+    chromium.get(f"{server_of(DIST / 'wasm', Strict)}/index.html")
+    message = chromium.find_element(By.ID, "no-script")
+    WebDriverWait(chromium, TIMEOUT).until(lambda _: message.is_displayed())
+    assert "policy (script-src) forbids" in " ".join(message.text.split())
+    chromium.get_log("browser")
 
 
 def test_a_removed_file_is_gone(page):
