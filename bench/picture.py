@@ -1,4 +1,5 @@
-"""Draws docs/speed.svg, our time by the length of a key, of docs/speed.tsv: python3 bench/picture.py [FILE]"""
+"""Draws docs/speed.svg, our time by the length of a key, of docs/speed.tsv; and docs/parquet.svg, times of DuckDB, of what
+docs/parquet.md says in place of it: python3 bench/picture.py [FOLDER]"""
 import math
 import re
 import sys
@@ -14,10 +15,12 @@ WIDTH, HEIGHT, LEAST, MOST = 165, 124, 0.4, 1.5  # of a plot, and the ratios at 
 TICKS, LENGTHS = (0.5, 0.75, 1, 1.25), (1, 4, 16, 64)
 STYLE = """
 text { font: 12px sans-serif; fill: #24292f } .title { font-weight: bold; font-size: 14px } .small { fill: #57606a }
+.name { font-size: 14px } .with { fill: #0550ae } .without { fill: #8c959f }
 .page { fill: #ffffff } .slower { fill: #fbe9d0 } .faster { fill: #dff3e4 } .tick { stroke: #8c959f; stroke-width: .5 }
 .equal { stroke: #24292f; stroke-width: 1.5 } .time { fill: none; stroke: #0550ae; stroke-width: 2.5 } circle { fill: #0550ae }
 @media (prefers-color-scheme: dark) {
 text { fill: #e6edf3 } .small { fill: #9da7b3 } .page { fill: #0d1117 } .slower { fill: #3d2b12 } .faster { fill: #12301c }
+.with { fill: #79c0ff } .without { fill: #6e7681 }
 .tick { stroke: #6e7681 } .equal { stroke: #e6edf3 } .time { stroke: #79c0ff } circle { fill: #79c0ff }
 }
 """
@@ -67,21 +70,57 @@ def plot(title, compared, pairs):
         yield text(x, y_of(ratio) + below, f"{ratio:.2f}", "title", "middle")
 
 
-def picture():
+def picture(height, title, about, body):
+    yield f'<svg xmlns="http://www.w3.org/2000/svg" viewBox="0 0 420 {height}" width="420" height="{height}" role="img">'
+    yield f"<title>{title}</title>\n<desc>{about}</desc>"
+    yield f'<style>{STYLE}</style>\n<rect class="page" width="420" height="{height}" rx="8"/>'
+    yield from body
+    yield "</svg>"
+
+
+def speed():
     found, where = cells()
     chosen = [(title, compared, found[group, peer]) for title, compared, group, peer in PLOTS]
     ranges = "; ".join(f"{title}, {compared}: {min(r for _, r in pairs):.2f} to {max(r for _, r in pairs):.2f}"
                        for title, compared, pairs in chosen)
-    yield '<svg xmlns="http://www.w3.org/2000/svg" viewBox="0 0 420 464" width="420" height="464" role="img">'
-    yield f"<title>Our time divided by theirs, for keys of 1 to 100 bytes</title>\n<desc>{ranges}.</desc>"
-    yield f'<style>{STYLE}</style>\n<rect class="page" width="420" height="464" rx="8"/>'
-    yield text(14, 26, "Our time divided by theirs", "title")
-    yield text(14, 44, "Below 1 we are faster. By the length of a key in bytes.", "small")
-    for i, (title, compared, pairs) in enumerate(chosen):
-        yield f'<g transform="translate({40 + i % 2 * 205} {100 + i // 2 * 194})">'
-        yield "".join(plot(title, compared, pairs)) + "</g>"
-    yield text(14, 452, f"Medians of 101 rounds, {where}.", "small") + "\n</svg>"
+
+    def body():
+        yield text(14, 26, "Our time divided by theirs", "title")
+        yield text(14, 44, "Below 1 we are faster. By the length of a key in bytes.", "small")
+        for i, (title, compared, pairs) in enumerate(chosen):
+            yield f'<g transform="translate({40 + i % 2 * 205} {100 + i // 2 * 194})">'
+            yield "".join(plot(title, compared, pairs)) + "</g>"
+        yield text(14, 452, f"Medians of 101 rounds, {where}.", "small")
+
+    return picture(464, "Our time divided by theirs, for keys of 1 to 100 bytes", f"{ranges}.", body())
+
+
+def bar(x, y, width, kind):
+    return f'<rect class="{kind}" x="{x}" y="{y}" width="{width:.1f}" height="16" rx="2"/>'
+
+
+def parquet():
+    about = re.search(r"!\[(.*?)\]\(parquet\.svg\)", (DOCS / "parquet.md").read_text(encoding="utf-8"), re.S)[1]
+    title, times = " ".join(about.split()).split(": ")
+    queries = [(name, int(without), int(fast)) for name, without, fast in re.findall(r"([a-z ]+) (\d+), (\d+)", times)]
+    longest = max(without for _, without, _ in queries)
+
+    def body():
+        yield text(14, 26, "DuckDB looks one value up", "title")
+        yield text(14, 44, "Milliseconds, in one test of DuckDB 2.0. Shorter is better.", "small")
+        for x, kind in ((14, "without"), (150, "with")):
+            yield bar(x, 58, 16, kind) + text(x + 22, 71, f"{kind} filters", "name")
+        for i, (name, *pair) in enumerate(queries):
+            y = 102 + 68 * i
+            yield text(14, y, name.strip(), "name")
+            for j, (time, kind) in enumerate(zip(pair, ("without", "with"))):
+                width = 330 * time / longest
+                yield bar(14, y + 7 + 19 * j, width, kind) + text(20 + width, y + 20 + 19 * j, time, "title")
+
+    return picture(370, title, about, body())
 
 
 if __name__ == "__main__":
-    Path(sys.argv[1] if len(sys.argv) > 1 else DOCS / "speed.svg").write_text("\n".join(picture()) + "\n", encoding="utf-8")
+    folder = Path(sys.argv[1]) if len(sys.argv) > 1 else DOCS
+    for name, drawn in (("speed", speed()), ("parquet", parquet())):
+        (folder / f"{name}.svg").write_text("\n".join(drawn) + "\n", encoding="utf-8")

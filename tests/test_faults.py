@@ -1,4 +1,8 @@
-"""The program and the crates' tests where calls fail: each request for memory, each read, each write in turn."""
+"""The program and the crates' tests where calls fail: each request for memory, each read, each write in turn.
+
+A crate's test called .._without_memory survives any request that fails, .._second_request_is_refused the second;
+.._no_memory makes none, .._makes_1_request one.
+"""
 import os
 import re
 import subprocess

@@ -168,6 +168,7 @@ def test_the_program_in_javascript_prints_the_hash(need, tmp_path):
     assert "`node fox.mjs`" in PAGE and output_of("node fox.mjs", folder) == ANSWER
 
 
-def test_the_plot_shows_the_times_that_were_measured(tmp_path):
-    subprocess.run([sys.executable, ROOT / "bench/picture.py", tmp_path / "speed.svg"], check=True)
-    assert (tmp_path / "speed.svg").read_text(encoding="utf-8") == text_of("docs/speed.svg")
+@pytest.mark.parametrize("name", ["speed.svg", "parquet.svg"])
+def test_a_plot_shows_the_times_that_were_measured(name, tmp_path):
+    subprocess.run([sys.executable, ROOT / "bench/picture.py", tmp_path], check=True)
+    assert (tmp_path / name).read_text(encoding="utf-8") == text_of(f"docs/{name}")

@@ -101,7 +101,7 @@ def test_a_bundler_makes_a_program_of_the_module(bundler, need, project):
     assert printed == ["ef46db3751d8e999"] + ["true", "ef46db3751d8e999"] * (bundler == "webpack")
 
 
-def test_the_page_is_made_of_the_texts_that_are_edited(need, tmp_path):
+def test_the_page_has_the_module_its_script_and_the_contracts(need, tmp_path):
     need("bash", "linux-x86_64")
     subprocess.run(["bash", ROOT / "tools/make_dist", "--page", tmp_path / "dist"], check=True)
     assert (tmp_path / "dist/wasm/index.html").read_bytes() == (DIST / "wasm/index.html").read_bytes()

@@ -1,10 +1,13 @@
 """The page in headless Chromium, opened as a file and from a server, and the module in a page. The hashes are compared
 with those of the Python package."""
+import contextlib
 import functools
 import http.server
 import json
 import random
+import re
 import shutil
+import subprocess
 import threading
 
 import pytest
@@ -38,12 +41,23 @@ class Quiet(http.server.SimpleHTTPRequestHandler):
 
 
 @pytest.fixture(scope="module")
-def server():
-    serve = functools.partial(Quiet, directory=DIST / "wasm")
-    with http.server.ThreadingHTTPServer(("127.0.0.1", 0), serve) as server:
-        threading.Thread(target=server.serve_forever, daemon=True).start()
-        yield f"http://127.0.0.1:{server.server_port}"
-        server.shutdown()
+def server_of():
+    """Serves a folder until the end, and returns its URL."""
+    with contextlib.ExitStack() as stack:
+
+        def serve(folder, handler=Quiet):
+            handler = functools.partial(handler, directory=folder)
+            server = stack.enter_context(http.server.ThreadingHTTPServer(("127.0.0.1", 0), handler))
+            threading.Thread(target=server.serve_forever, daemon=True).start()
+            stack.callback(server.shutdown)
+            return f"http://127.0.0.1:{server.server_port}"
+
+        yield serve
+
+
+@pytest.fixture(scope="module")
+def server(server_of):
+    return server_of(DIST / "wasm")
 
 
 @pytest.fixture(scope="module")
@@ -233,10 +247,51 @@ def test_a_stopped_file_stays_stopped(page):
     page.wait_for("endless", "%")
     page.press("endless", "button.stop")
     page.wait_for("endless", "stopped")
-    assert page.chromium.switch_to.active_element.text == "endless"  # the focus moves, since the button has gone
+    button = page.chromium.switch_to.active_element
+    assert (button.text, button.get_attribute("aria-label")) == ("Continue", "Continue endless")
     page.type("seed", "7")
     page.wait_for_hashes("Text", hashes(b"", 7))
     assert page.in_card("endless", ".status").text == "stopped" and page.hashes("endless") == NONE
+
+
+@pytest.mark.parametrize("seed", [0, 7])
+def test_a_stopped_file_goes_on(seed, page):
+    """Where it was, but with another seed from its beginning. A part that is left out, or hashed again, gives other hashes."""
+    part = random.Random(2).randbytes(1 << 20)
+    with open(page.folder / "long", "wb") as file:
+        file.writelines([part] * 1024)
+    xxh64, murmur = sketch_hash.xxh64(seed=seed), sketch_hash.murmur3_x64_128(seed=seed)
+    for _ in range(1024):
+        xxh64.update(part)
+        murmur.update(part)
+    page.one("input#files").send_keys(str(page.folder / "long"))
+    for _ in range(2):
+        page.wait_for("long", "%")
+        page.press("long", "button.stop")
+        page.wait_for("long", "stopped")
+        page.type("seed", str(seed))
+        page.press("long", "button.stop")
+    page.wait_for_hashes("long", (xxh64.hexdigest(), murmur.hexdigest(), murmur.digest_bytes().hex()))
+    assert not page.in_card("long", ".stop").is_displayed()
+
+
+def test_both_lines_of_a_text_are_seen(page):
+    page.one("#text").send_keys("first\nsecond")
+    assert page.run("const { scrollTop, scrollHeight, clientHeight } = arguments[0];"
+                    "return [scrollTop, scrollHeight <= clientHeight]", page.one("#text")) == [0, True]
+
+
+def test_a_policy_that_forbids_the_script_is_named(chromium, server_of):
+    class Strict(Quiet):
+        def end_headers(self):
+            self.send_header("Content-Security-Policy", "script-src 'self'")
+            super().end_headers()
+
+    chromium.get(f"{server_of(DIST / 'wasm', Strict)}/index.html")
+    message = chromium.find_element(By.ID, "no-script")
+    WebDriverWait(chromium, TIMEOUT).until(lambda _: message.is_displayed())
+    assert "policy (script-src) forbids" in " ".join(message.text.split())
+    chromium.get_log("browser")
 
 
 def test_a_removed_file_is_gone(page):
@@ -300,3 +355,21 @@ def test_a_page_may_import_the_module(chromium, server):
         import('/sketch_hash.mjs').then(({ load }) => load()).then(run).catch(String).then(arguments[1]);
     """
     assert chromium.execute_async_script(script, FOX.decode()) == [*FOX_HASHES[:2], True, False]
+
+
+def test_a_bundle_hashes_the_files_that_a_user_chooses(chromium, need, server_of, tmp_path):
+    """By the program, the command and the elements of the package's page."""
+    need("esbuild")
+    page = (DIST / "wasm/README.md").read_text()
+    (tmp_path / "upload.js").write_text(re.search(r"^```js upload\n(.*?)^```", page, re.M | re.S)[1])
+    shutil.copytree(DIST / "wasm", tmp_path / "node_modules/sketch-hash")
+    subprocess.run(re.search(r"^    (esbuild .*)", page, re.M)[1].split(), cwd=tmp_path, check=True, capture_output=True)
+    (tmp_path / "public/index.html").write_text(re.search(r"^```html\n(.*?)^```", page, re.M | re.S)[1])
+    chosen = {"fox": FOX, "long": bytes(9 << 20)}
+    chromium.get(server_of(tmp_path / "public"))
+    for name, data in chosen.items():
+        (tmp_path / name).write_bytes(data)
+    chromium.find_element(By.CSS_SELECTOR, "input").send_keys("\n".join(str(tmp_path / name) for name in chosen))
+    expected = [f"{name} {sketch_hash.xxh64_hexdigest(data)}" for name, data in chosen.items()]
+    output = chromium.find_element(By.CSS_SELECTOR, "pre")
+    WebDriverWait(chromium, TIMEOUT).until(lambda _: output.text.splitlines() == expected)

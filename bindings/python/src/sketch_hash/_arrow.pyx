@@ -390,7 +390,8 @@ cdef class Arrow:
 
     cdef int append(self, ArrowArray *array, bint is_alone) except -1:
         """Takes an array, and checks it. All are checked before the first is used, so that a call that raises changes
-        nothing. Of texts that are one array without nulls, the call that takes them checks the offsets."""
+        nothing. Of texts that are one array without nulls, the call that takes them checks the offsets: that takes 0.94 of the
+        time of blocks of hashes, or up to 1.09 in a filter larger than the cache."""
         cdef Chunk *chunk = <Chunk *>calloc(1, sizeof(Chunk))
         if chunk is NULL:
             with nogil:  # what is released may wait for a thread that needs the GIL

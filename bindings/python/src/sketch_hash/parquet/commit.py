@@ -1,7 +1,13 @@
 """How a file is replaced, on a disk or in a store: by its complete successor, or not at all.
 
 A store may ignore a call, or do it and yet report an error. So no answer is believed: each step looks at what is there. The
-steps, and what a kill at each of them leaves, are in docs/parquet.md.
+steps, and what a kill at each of them leaves:
+
+- look at the target, on a disk lock it; read the values; write the filters to a temporary file: the old file
+- write the new file beside the target: the old file, a part of the new one
+- read it back (on a disk inode, size, time); look at the source and the target again: the old file, the new one beside it
+- rename it, or copy it in a store that cannot rename: the old or the new file, maybe the new one beside it
+- look at the target, twice if a look fails; remove the new file beside it: the new file, maybe a copy beside it
 """
 import contextlib
 import itertools
