@@ -1,6 +1,6 @@
 // Columns of keys, and the Bloom filter of Apache Parquet. Licence: Apache-2.0. Programs import sketch_hash.mjs.
 
-import { PIECE, checked, disposable, view } from './hashes.mjs';
+import { PIECE, XxHash64, checked, disposable, view } from './hashes.mjs';
 
 const HASHES = ['BigUint64Array'];
 const WIDE = [...HASHES, 'BigInt64Array'];
@@ -30,6 +30,7 @@ function textsOf(bytes, offsets) {
 }
 
 const ERROR_OFFSET = -2;
+const ONE_IN = 'oneIn, as 100 for 1 %,';
 
 // The length of a filter as a number. The library counts in 32 bits here, and would cut a longer one.
 function lengthOf(number) {
@@ -53,6 +54,8 @@ const keyView = (key) => typeof key === 'string' ? encoder.encode(key) : view(ke
 class Blocks {
     #module; #end;
     #ranges = []; // those that are free, by their addresses; no two of them touch
+
+    unreachable = new FinalizationRegistry((block) => this.release(block)); // releases blocks of collected objects
 
     constructor(module) {
         this.#module = module;
@@ -97,18 +100,21 @@ class Blocks {
     }
 }
 
-/** The calls of a module on columns, and its Bloom filter. A long key of a filter is hashed by `xxh64`. */
-export function filtersOf(module, { xxh64 }) {
-    const { calls, result, input } = module;
-    const blocks = new Blocks(module);
-    const unreachable = new FinalizationRegistry((block) => blocks.release(block));
+/** The calls of a module on columns. */
+class Columns {
+    constructor(module) {
+        this.module = module;
+        this.blocks = new Blocks(module);
+        this.xxh64 = new XxHash64(module);
+    }
 
     // The call for offsets or numbers of this width: its name ends with 32 or 64.
-    const callFor = (name, { width }) => calls[`${name}${8 * width}`];
+    callFor(name, { width }) { return this.module.calls[`${name}${8 * width}`]; }
 
     // Runs a call over columns, and returns the results. A block holds the results, then offsets or numbers, then
     // bytes, so that each array is aligned.
-    function overColumns(columns, resultBytes, call) {
+    run(columns, resultBytes, call) {
+        const { module, blocks } = this;
         const block = blocks.allocate(columns.reduce((sum, { bytes }) => sum + bytes.length, resultBytes + 8));
         const at = block.start;
         try {
@@ -125,199 +131,226 @@ export function filtersOf(module, { xxh64 }) {
         }
     }
 
-    function hashEachKey(name, width) {
-        return (bytes, offsets, seed = 0n) => {
-            const seedWord = checked(seed, 'a seed');
-            const { ends, columns, count } = textsOf(bytes, offsets);
-            return new BigUint64Array(overColumns(columns, count * width, (out, ofOffsets, ofBytes) =>
-                callFor(name, ends)(...ofBytes, ...ofOffsets, seedWord, out, count, result)).buffer);
-        };
+    hashEach(name, width, bytes, offsets, seed = 0n) {
+        const seedWord = checked(seed, 'a seed');
+        const { ends, columns, count } = textsOf(bytes, offsets);
+        return new BigUint64Array(this.run(columns, count * width, (out, ofOffsets, ofBytes) =>
+            this.callFor(name, ends)(...ofBytes, ...ofOffsets, seedWord, out, count, this.module.result)).buffer);
     }
 
-    function xxh64EachU64(values, seed = 0n) {
+    hashEachU64(values, seed = 0n) {
         const seedWord = checked(seed, 'a seed');
         const numbers = columnOf(values, WIDE, 'numbers');
-        return new BigUint64Array(overColumns([numbers], 8 * numbers.count, (out, ofNumbers) =>
-            calls.sketch_xxh64_each_u64(...ofNumbers, seedWord, out, numbers.count)).buffer);
+        return new BigUint64Array(this.run([numbers], 8 * numbers.count, (out, ofNumbers) =>
+            this.module.calls.sketch_xxh64_each_u64(...ofNumbers, seedWord, out, numbers.count)).buffer);
+    }
+}
+
+function bytesFor({ calls }, keys, oneIn) {
+    const length = calls.sketch_bloom_bytes_for(checked(keys, 'keys'), checked(oneIn, ONE_IN));
+    if (length) return length >>> 0; // a result is signed
+    throw new RangeError('no Bloom filter of at most 128 MiB keeps this rate for so many keys, or oneIn is 0');
+}
+
+function blockOffset({ calls }, length, hash) {
+    const offset = calls.sketch_bloom_block_offset(lengthOf(length), checked(hash, 'a hash')) >>> 0;
+    if (offset < length) return offset;
+    throw new RangeError(`a filter must have a positive multiple of 32 bytes, not ${length}`);
+}
+
+// The bits of a filter that follows its header.
+function parquetBits(module, bytes) {
+    const header = module.calls.sketch_bloom_header_read(
+        ...module.put(bytes.subarray(0, PIECE), module.input), module.result);
+    if (!header) throw new RangeError('the input does not begin with the whole header of a Bloom filter');
+    const last = header + Number(module.words(1)[0]);
+    if (last > bytes.length) throw new RangeError('the input ends before the Bloom filter does');
+    return bytes.subarray(header, last);
+}
+
+// A Bloom filter. Its bits are at the start of a block of the module's memory. The block is free again when the filter
+// was freed, or collected as garbage.
+class Filter {
+    #columns; #module; #block; #length;
+
+    constructor(columns, length, bytes) {
+        this.#columns = columns;
+        this.#module = columns.module;
+        this.#length = lengthOf(length);
+        check(this.#module.calls.sketch_bloom_check(this.#length));
+        this.#block = columns.blocks.allocate(this.#length);
+        columns.blocks.unreachable.register(this, this.#block, this);
+        if (bytes) this.#bytes().set(bytes);
+        else this.#bytes().fill(0);
     }
 
-    // The bits are at the start of a block of the module's memory. It is free again when the filter was freed, or
-    // collected as garbage.
-    class BloomFilter {
-        #block; #length;
+    free() {
+        if (!this.#block) return;
+        this.#columns.blocks.unreachable.unregister(this);
+        this.#columns.blocks.release(this.#block);
+        this.#block = undefined;
+    }
 
-        constructor(length) {
-            this.#length = lengthOf(length);
-            check(calls.sketch_bloom_check(this.#length));
-            this.#block = blocks.allocate(this.#length);
-            unreachable.register(this, this.#block, this);
-            this.#bytes().fill(0);
+    // A view that a later call may detach.
+    #bytes() {
+        const [start] = this.#bits;
+        return this.#module.memory.subarray(start, start + this.#length);
+    }
+
+    get #bits() {
+        if (!this.#block) throw new TypeError('the filter was freed');
+        return [this.#block.start, this.#length];
+    }
+
+    get length() { return this.#length; }
+
+    // One call, or that of the hash if the key is long. By its hash a short key takes 1.6 times as long.
+    #callOnKey(ofKey, ofHash, key) {
+        const bytes = keyView(key);
+        if (bytes.length > PIECE) return ofHash(...this.#bits, this.#columns.xxh64.of(bytes));
+        const { memory, input } = this.#module;
+        memory.set(bytes, input);
+        return ofKey(...this.#bits, input, bytes.length);
+    }
+
+    add(key) {
+        const { calls } = this.#module;
+        check(this.#callOnKey(calls.sketch_bloom_insert, calls.sketch_bloom_insert_hash, key));
+        return this;
+    }
+
+    has(key) {
+        const { calls } = this.#module;
+        return this.#callOnKey(calls.sketch_bloom_contains, calls.sketch_bloom_contains_hash, key) !== 0;
+    }
+
+    addHash(hash) {
+        check(this.#module.calls.sketch_bloom_insert_hash(...this.#bits, checked(hash, 'a hash')));
+        return this;
+    }
+
+    hasHash(hash) {
+        return this.#module.calls.sketch_bloom_contains_hash(...this.#bits, checked(hash, 'a hash')) !== 0;
+    }
+
+    addEach(bytes, offsets) {
+        const { ends, columns } = textsOf(bytes, offsets);
+        const call = this.#columns.callFor('sketch_bloom_insert_each', ends);
+        this.#columns.run(columns, 0, (_, ofOffsets, ofBytes) =>
+            call(...this.#bits, ...ofBytes, ...ofOffsets, this.#module.result));
+        return this;
+    }
+
+    hasEach(bytes, offsets) {
+        const { ends, columns, count } = textsOf(bytes, offsets);
+        const call = this.#columns.callFor('sketch_bloom_contains_each', ends);
+        return this.#columns.run(columns, count, (found, ofOffsets, ofBytes) =>
+            call(...this.#bits, ...ofBytes, ...ofOffsets, found, count, this.#module.result));
+    }
+
+    #addValues(call, values) {
+        this.#columns.run([values], 0, (_, ofValues) => call(...this.#bits, ...ofValues));
+        return this;
+    }
+
+    #hasValues(call, values) {
+        return this.#columns.run([values], values.count, (found, ofValues) =>
+            call(...this.#bits, ...ofValues, found, values.count));
+    }
+
+    addEachNumber(numbers) {
+        const column = columnOf(numbers, NUMBERS, 'numbers');
+        return this.#addValues(this.#columns.callFor('sketch_bloom_insert_each_u', column), column);
+    }
+
+    hasEachNumber(numbers) {
+        const column = columnOf(numbers, NUMBERS, 'numbers');
+        return this.#hasValues(this.#columns.callFor('sketch_bloom_contains_each_u', column), column);
+    }
+
+    addEachHash(hashes) {
+        return this.#addValues(this.#module.calls.sketch_bloom_insert_each_hash, columnOf(hashes, HASHES, 'hashes'));
+    }
+
+    hasEachHash(hashes) {
+        return this.#hasValues(this.#module.calls.sketch_bloom_contains_each_hash, columnOf(hashes, HASHES, 'hashes'));
+    }
+
+    merge(other) {
+        if (!(#block in Object(other)) || other.#module !== this.#module) {
+            throw new TypeError('only a Bloom filter of this module can be merged');
         }
-
-        free() {
-            if (!this.#block) return;
-            unreachable.unregister(this);
-            blocks.release(this.#block);
-            this.#block = undefined;
+        const args = [...this.#bits, ...other.#bits];
+        if (other !== this && this.#module.calls.sketch_bloom_merge(...args)) {
+            throw new RangeError(`filters of ${this.#length} and ${other.#length} bytes cannot be merged`);
         }
+        return this;
+    }
 
-        // A view that a later call may detach.
-        #bytes() {
-            const [start] = this.#bits;
-            return module.memory.subarray(start, start + this.#length);
+    // The bits after these are free then.
+    #shrink(length) {
+        this.#length = length;
+        const start = this.#block.start + 64 * Math.ceil(length / 64);
+        if (start < this.#block.stop) this.#columns.blocks.release({ start, stop: this.#block.stop });
+        this.#block.stop = start;
+        return this;
+    }
+
+    fold() {
+        if (this.#module.calls.sketch_bloom_fold(...this.#bits)) {
+            throw new RangeError(`a filter to fold must have an even number of blocks, not ${this.#length / 32}`);
         }
+        return this.#shrink(this.#length / 2);
+    }
 
-        static bytesFor(keys, oneIn) {
-            const length = calls.sketch_bloom_bytes_for(checked(keys, 'keys'), checked(oneIn, 'oneIn, as 100 for 1 %,'));
-            if (length) return length >>> 0; // a result is signed
-            throw new RangeError('no Bloom filter of at most 128 MiB keeps this rate for so many keys, or oneIn is 0');
-        }
+    foldTo(oneIn) {
+        return this.#shrink(this.#module.calls.sketch_bloom_fold_to(...this.#bits, checked(oneIn, ONE_IN)) >>> 0);
+    }
 
-        static blockOffset(length, hash) {
-            const offset = calls.sketch_bloom_block_offset(lengthOf(length), checked(hash, 'a hash')) >>> 0;
-            if (offset < length) return offset;
-            throw new RangeError(`a filter must have a positive multiple of 32 bytes, not ${length}`);
-        }
+    toBytes() { return this.#bytes().slice(); }
 
-        // A subclass's constructor may take other arguments, so it is not called.
-        static forKeys(keys, oneIn) { return Reflect.construct(BloomFilter, [BloomFilter.bytesFor(keys, oneIn)], this); }
+    toParquet() {
+        const { calls, input, memory } = this.#module;
+        const header = calls.sketch_bloom_header_write(BigInt(this.#length), input, PIECE);
+        if (!header) throw new RangeError('the filter is too long for a header of Parquet');
+        const bytes = new Uint8Array(header + this.#length);
+        bytes.set(memory.subarray(input, input + header));
+        bytes.set(this.#bytes(), header);
+        return bytes;
+    }
+}
+disposable(Filter);
+
+/** The calls of a module on columns, and its Bloom filter. */
+export function filtersOf(module) {
+    const columns = new Columns(module);
+    // A subclass's constructor may take other arguments, so it is not called.
+    const create = (kind, length, bytes) => Reflect.construct(Filter, [columns, length, bytes], kind);
+
+    class BloomFilter extends Filter {
+        constructor(length) { super(columns, length); }
+
+        static bytesFor(keys, oneIn) { return bytesFor(module, keys, oneIn); }
+
+        static blockOffset(length, hash) { return blockOffset(module, length, hash); }
+
+        static forKeys(keys, oneIn) { return create(this, bytesFor(module, keys, oneIn)); }
 
         static fromBytes(bytes) {
             const all = view(bytes);
-            const filter = Reflect.construct(BloomFilter, [all.length], this);
-            filter.#bytes().set(all);
-            return filter;
+            return create(this, all.length, all);
         }
 
         static fromParquet(bytes) {
-            const all = view(bytes);
-            const header = calls.sketch_bloom_header_read(...module.put(all.subarray(0, PIECE), input), result);
-            if (!header) throw new RangeError('the input does not begin with the whole header of a Bloom filter');
-            const last = header + Number(module.words(1)[0]);
-            if (last > all.length) throw new RangeError('the input ends before the Bloom filter does');
-            return BloomFilter.fromBytes.call(this, all.subarray(header, last));
-        }
-
-        get #bits() {
-            if (!this.#block) throw new TypeError('the filter was freed');
-            return [this.#block.start, this.#length];
-        }
-
-        get length() { return this.#length; }
-
-        // One call, or that of the hash if the key is long. By its hash a short key takes 1.6 times as long.
-        #callOnKey(ofKey, ofHash, key) {
-            const bytes = keyView(key);
-            if (bytes.length > PIECE) return ofHash(...this.#bits, xxh64(bytes));
-            return ofKey(...this.#bits, ...module.put(bytes, input));
-        }
-
-        add(key) {
-            check(this.#callOnKey(calls.sketch_bloom_insert, calls.sketch_bloom_insert_hash, key));
-            return this;
-        }
-
-        has(key) {
-            return this.#callOnKey(calls.sketch_bloom_contains, calls.sketch_bloom_contains_hash, key) !== 0;
-        }
-
-        addHash(hash) {
-            check(calls.sketch_bloom_insert_hash(...this.#bits, checked(hash, 'a hash')));
-            return this;
-        }
-
-        hasHash(hash) {
-            return calls.sketch_bloom_contains_hash(...this.#bits, checked(hash, 'a hash')) !== 0;
-        }
-
-        addEach(bytes, offsets) {
-            const { ends, columns } = textsOf(bytes, offsets);
-            overColumns(columns, 0, (_, ofOffsets, ofBytes) =>
-                callFor('sketch_bloom_insert_each', ends)(...this.#bits, ...ofBytes, ...ofOffsets, result));
-            return this;
-        }
-
-        hasEach(bytes, offsets) {
-            const { ends, columns, count } = textsOf(bytes, offsets);
-            const call = callFor('sketch_bloom_contains_each', ends);
-            return overColumns(columns, count, (found, ofOffsets, ofBytes) =>
-                call(...this.#bits, ...ofBytes, ...ofOffsets, found, count, result));
-        }
-
-        #addValues(call, values) {
-            overColumns([values], 0, (_, ofValues) => call(...this.#bits, ...ofValues));
-            return this;
-        }
-
-        #hasValues(call, values) {
-            return overColumns([values], values.count, (found, ofValues) =>
-                call(...this.#bits, ...ofValues, found, values.count));
-        }
-
-        addEachNumber(numbers) {
-            const column = columnOf(numbers, NUMBERS, 'numbers');
-            return this.#addValues(callFor('sketch_bloom_insert_each_u', column), column);
-        }
-
-        hasEachNumber(numbers) {
-            const column = columnOf(numbers, NUMBERS, 'numbers');
-            return this.#hasValues(callFor('sketch_bloom_contains_each_u', column), column);
-        }
-
-        addEachHash(hashes) {
-            return this.#addValues(calls.sketch_bloom_insert_each_hash, columnOf(hashes, HASHES, 'hashes'));
-        }
-
-        hasEachHash(hashes) {
-            return this.#hasValues(calls.sketch_bloom_contains_each_hash, columnOf(hashes, HASHES, 'hashes'));
-        }
-
-        merge(other) {
-            if (!(#block in Object(other))) throw new TypeError('only a Bloom filter of this module can be merged');
-            const args = [...this.#bits, ...other.#bits];
-            if (other !== this && calls.sketch_bloom_merge(...args)) {
-                throw new RangeError(`filters of ${this.#length} and ${other.#length} bytes cannot be merged`);
-            }
-            return this;
-        }
-
-        // The bits after these are free then.
-        #shrink(length) {
-            this.#length = length;
-            const start = this.#block.start + 64 * Math.ceil(length / 64);
-            if (start < this.#block.stop) blocks.release({ start, stop: this.#block.stop });
-            this.#block.stop = start;
-            return this;
-        }
-
-        fold() {
-            if (calls.sketch_bloom_fold(...this.#bits)) {
-                throw new RangeError(`a filter to fold must have an even number of blocks, not ${this.#length / 32}`);
-            }
-            return this.#shrink(this.#length / 2);
-        }
-
-        foldTo(oneIn) {
-            return this.#shrink(calls.sketch_bloom_fold_to(...this.#bits, checked(oneIn, 'oneIn, as 100 for 1 %,')) >>> 0);
-        }
-
-        toBytes() { return this.#bytes().slice(); }
-
-        toParquet() {
-            const header = calls.sketch_bloom_header_write(BigInt(this.#length), input, PIECE);
-            if (!header) throw new RangeError('the filter is too long for a header of Parquet');
-            const bytes = new Uint8Array(header + this.#length);
-            bytes.set(module.memory.subarray(input, input + header));
-            bytes.set(this.#bytes(), header);
-            return bytes;
+            const bits = parquetBits(module, view(bytes));
+            return create(this, bits.length, bits);
         }
     }
-    disposable(BloomFilter);
 
     return {
-        xxh64Each: hashEachKey('sketch_xxh64_each', 8),
-        xxh64EachU64,
-        murmur128Each: hashEachKey('sketch_murmur3_x64_128_each', 16),
+        xxh64Each: (bytes, offsets, seed) => columns.hashEach('sketch_xxh64_each', 8, bytes, offsets, seed),
+        xxh64EachU64: (values, seed) => columns.hashEachU64(values, seed),
+        murmur128Each: (bytes, offsets, seed) => columns.hashEach('sketch_murmur3_x64_128_each', 16, bytes, offsets, seed),
         BloomFilter,
     };
 }

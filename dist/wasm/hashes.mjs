@@ -107,133 +107,157 @@ export function disposable(kind) {
     Object.defineProperty(kind.prototype, Symbol.dispose, { value() { this.free(); } });
 }
 
-/** The hashes of a module: calls on one input, and streams. */
-export function hashesOf(module) {
-    const { calls, result, state, input } = module;
+/**
+ * A hash by the calls of a module: `hashInput` of an input in the module's memory, `hashState` of the state there. `value`
+ * makes the hash of what these return.
+ */
+class Hash {
+    constructor(module, name, stateSize, digits) {
+        this.module = module;
+        this.stateSize = stateSize;
+        this.digits = digits;
+        this.reset = module.calls[`sketch_${name}_reset`];
+        this.update = module.calls[`sketch_${name}_update`];
+    }
 
-    function pair() {
-        const [h1, h2] = module.words(2);
+    /** Hashes bytes by one call, or by a stream if they are many. */
+    run(bytes, seed = 0n) {
+        const all = view(bytes);
+        if (all.length > PIECE) {
+            new Stream(this, seed).update(all);
+            return this.hashState();
+        }
+        const seedWord = checked(seed, 'a seed');
+        return this.hashInput(...this.module.put(all, this.module.input), seedWord);
+    }
+
+    of(bytes, seed) { return this.value(this.run(bytes, seed)); }
+
+    hex(hash) { return hash.toString(16).padStart(this.digits, '0'); }
+}
+
+export class XxHash64 extends Hash {
+    constructor(module) { super(module, 'xxh64', 80, 16); }
+
+    hashInput(at, length, seed) { return this.module.calls.sketch_xxh64(at, length, seed); }
+
+    hashState() { return this.module.calls.sketch_xxh64_digest(this.module.state); }
+
+    value(word) { return unsigned(word); }
+}
+
+class MurmurHash extends Hash {
+    constructor(module) { super(module, 'murmur3_x64_128', 40, 32); }
+
+    hashInput(at, length, seed) {
+        this.module.calls.sketch_murmur3_x64_128(at, length, seed, this.module.result);
+    }
+
+    hashState() {
+        this.module.calls.sketch_murmur3_x64_128_digest(this.module.state, this.module.result);
+    }
+
+    value() {
+        const [h1, h2] = this.module.words(2);
         return h1 << 64n | h2;
     }
 
-    const hex = (hash, digits) => hash.toString(16).padStart(digits, '0');
+    /** The last hash in memory order. */
+    bytes() {
+        const { module } = this;
+        module.calls.sketch_murmur3_x64_128_bytes(module.result, module.state);
+        return module.memory.slice(module.state, module.state + 16);
+    }
+}
 
-    function inMemoryOrder() {
-        calls.sketch_murmur3_x64_128_bytes(result, state);
-        return module.memory.slice(state, state + 16);
+/** A stream, whose state is outside of the module's memory between calls. */
+class Stream {
+    #hash; #seed; #saved;
+
+    constructor(hash, seed = 0n) {
+        this.#hash = hash;
+        this.reset(seed);
     }
 
-    // The state of a stream is outside of the module's memory between calls.
-    class Stream {
-        #kind; #seed; #saved;
+    get seed() { return this.#seed; }
 
-        constructor(kind, seed = 0n) {
-            this.#kind = kind;
-            this.reset(seed);
-        }
-
-        get seed() { return this.#seed; }
-
-        reset(seed = this.#seed) {
-            this.#seed = checked(seed, 'a seed');
-            this.#kind.reset(state, this.#seed);
-            this.#saved = module.memory.slice(state, state + this.#kind.size);
-            return this;
-        }
-
-        #restore() {
-            if (!this.#saved) throw new TypeError('the stream was freed');
-            module.memory.set(this.#saved, state);
-        }
-
-        update(bytes) {
-            const all = view(bytes);
-            this.#restore();
-            for (let at = 0; at < all.length; at += PIECE) {
-                this.#kind.update(state, ...module.put(all.subarray(at, at + PIECE), input));
-            }
-            this.#saved.set(module.memory.subarray(state, state + this.#kind.size));
-            return this;
-        }
-
-        digest() {
-            this.#restore();
-            return this.#kind.digest();
-        }
-
-        hexDigest() { return hex(this.digest(), this.#kind.digits); }
-
-        // A subclass's constructor may take other arguments, so it is not called.
-        copy() {
-            this.#restore();
-            const other = Reflect.construct(Stream, [this.#kind, this.#seed], this.constructor);
-            other.#saved = this.#saved.slice();
-            return Object.assign(other, this);
-        }
-
-        free() { this.#saved = undefined; }
+    reset(seed = this.#seed) {
+        const { module, stateSize } = this.#hash;
+        this.#seed = checked(seed, 'a seed');
+        this.#hash.reset(module.state, this.#seed);
+        this.#saved = module.memory.slice(module.state, module.state + stateSize);
+        return this;
     }
-    disposable(Stream);
 
-    const xxh64Kind = {
-        size: 80,
-        digits: 16,
-        reset: calls.sketch_xxh64_reset,
-        update: calls.sketch_xxh64_update,
-        digest: () => unsigned(calls.sketch_xxh64_digest(state)),
-    };
-    const murmurKind = {
-        size: 40,
-        digits: 32,
-        reset: calls.sketch_murmur3_x64_128_reset,
-        update: calls.sketch_murmur3_x64_128_update,
-        digest: () => { calls.sketch_murmur3_x64_128_digest(state, result); return pair(); },
-    };
+    #restore() {
+        if (!this.#saved) throw new TypeError('the stream was freed');
+        const { module } = this.#hash;
+        module.memory.set(this.#saved, module.state);
+    }
 
-    class Xxh64 extends Stream { constructor(seed) { super(xxh64Kind, seed); } }
+    update(bytes) {
+        const all = view(bytes);
+        this.#restore();
+        const { module, update, stateSize } = this.#hash;
+        const { state, input } = module;
+        for (let at = 0; at < all.length; at += PIECE) {
+            update(state, ...module.put(all.subarray(at, at + PIECE), input));
+        }
+        this.#saved.set(module.memory.subarray(state, state + stateSize));
+        return this;
+    }
+
+    digest() {
+        this.#restore();
+        return this.#hash.value(this.#hash.hashState());
+    }
+
+    hexDigest() { return this.#hash.hex(this.digest()); }
+
+    // A subclass's constructor may take other arguments, so it is not called.
+    copy() {
+        this.#restore();
+        const other = Reflect.construct(Stream, [this.#hash, this.#seed], this.constructor);
+        other.#saved = this.#saved.slice();
+        return Object.assign(other, this);
+    }
+
+    free() { this.#saved = undefined; }
+}
+disposable(Stream);
+
+function seedHash({ calls, result, memory }, seed) {
+    const word = checked(seed, 'a seed');
+    if (calls.sketch_seed_hash(word, result)) {
+        throw new RangeError(`the hash of the seed ${word} is 0, so sketches cannot use it: choose another seed`);
+    }
+    return memory[result] | memory[result + 1] << 8;
+}
+
+/** The hashes of a module: calls on one input, and streams. */
+export function hashesOf(module) {
+    const [xxh64, murmur] = [new XxHash64(module), new MurmurHash(module)];
+
+    class Xxh64 extends Stream { constructor(seed) { super(xxh64, seed); } }
 
     class Murmur128 extends Stream {
-        constructor(seed) { super(murmurKind, seed); }
+        constructor(seed) { super(murmur, seed); }
 
         digestBytes() {
             this.digest();
-            return inMemoryOrder();
+            return murmur.bytes();
         }
-    }
-
-    // One call, or a stream if the input is long.
-    function xxh64(bytes, seed = 0n) {
-        const all = view(bytes);
-        if (all.length > PIECE) return new Xxh64(seed).update(all).digest();
-        const seedWord = checked(seed, 'a seed');
-        return unsigned(calls.sketch_xxh64(...module.put(all, input), seedWord));
-    }
-
-    function murmur128(bytes, seed = 0n) {
-        const all = view(bytes);
-        if (all.length > PIECE) return new Murmur128(seed).update(all).digest();
-        const seedWord = checked(seed, 'a seed');
-        calls.sketch_murmur3_x64_128(...module.put(all, input), seedWord, result);
-        return pair();
-    }
-
-    function seedHash(seed) {
-        const word = checked(seed, 'a seed');
-        if (calls.sketch_seed_hash(word, result)) {
-            throw new RangeError(`the hash of the seed ${word} is 0, so sketches cannot use it: choose another seed`);
-        }
-        return module.size & 0xffff;
     }
 
     return {
         version: VERSION,
-        xxh64,
-        xxh64Hex: (bytes, seed) => hex(xxh64(bytes, seed), 16),
+        xxh64: (bytes, seed) => xxh64.of(bytes, seed),
+        xxh64Hex: (bytes, seed) => xxh64.hex(xxh64.of(bytes, seed)),
         Xxh64,
-        murmur128,
-        murmur128Hex: (bytes, seed) => hex(murmur128(bytes, seed), 32),
-        murmur128Bytes: (bytes, seed) => { murmur128(bytes, seed); return inMemoryOrder(); },
+        murmur128: (bytes, seed) => murmur.of(bytes, seed),
+        murmur128Hex: (bytes, seed) => murmur.hex(murmur.of(bytes, seed)),
+        murmur128Bytes: (bytes, seed) => { murmur.run(bytes, seed); return murmur.bytes(); },
         Murmur128,
-        seedHash,
+        seedHash: (seed) => seedHash(module, seed),
     };
 }

@@ -6,6 +6,5 @@ import { hashesOf, moduleFrom } from './hashes.mjs';
 
 export async function load(source) {
     const module = await moduleFrom(source);
-    const hashes = hashesOf(module);
-    return { ...hashes, ...filtersOf(module, hashes) };
+    return { ...hashesOf(module), ...filtersOf(module) };
 }

@@ -183,13 +183,6 @@ int main() {
     assert not re.search(r" T sketch_", output("nm", tmp_path / "program"))
 
 
-def test_inlining_is_chosen_before_the_header_is_included(need, tmp_path):
-    need("gcc")
-    (tmp_path / "late.c").write_text('#include "sketch_hash.h"\n#define SKETCH_HASH_INLINE\n#include "sketch_hash.c"\n')
-    command = ["gcc", "-I", INCLUDE, "-I", DIST, "-c", tmp_path / "late.c", "-o", tmp_path / "late.o"]
-    assert "define SKETCH_HASH_INLINE before" in subprocess.run(command, stderr=subprocess.PIPE, text=True).stderr
-
-
 @pytest.mark.parametrize("name, args", [("compare", []), ("columns", []), ("states", ["10000"])])
 def test_calls_access_only_what_they_are_given(name, args, built, need):
     need("valgrind")
@@ -254,17 +247,6 @@ uint64_t other(void) { return sketch_xxh64("fox", 3, 0); }
     output("env", f"LD_PRELOAD={wrong_copy}/libwrong.so", tmp_path / "program")
 
 
-def test_a_plugin_does_not_export_the_calls_that_it_embeds(need, tmp_path):
-    """With the option of dist/README.md. Exported calls could replace those of another version in the same process."""
-    need("gcc", "nm")
-    option = re.search(r"`(-fvisibility=hidden)`", (DIST / "README.md").read_text())[1]
-    (tmp_path / "plugin.c").write_text('#include <sketch_hash.h>\n__attribute__((visibility("default"))) uint64_t plugin(void) '
-                                       '{ return sketch_xxh64("fox", 3, 0); }')
-    output("gcc", "-shared", "-fPIC", "-I", INCLUDE, "-o", tmp_path / "plugin.so", tmp_path / "plugin.c", TEXT, option)
-    exported = output("nm", "-D", "--defined-only", tmp_path / "plugin.so")
-    assert " T plugin" in exported and "sketch_" not in exported
-
-
 # ---- The header for programs that use xxHash
 
 DROP_IN = DIST / "drop_in"
@@ -312,9 +294,13 @@ XXH64_hash_t fox(void) { return XXH64("fox", 3, 0); }
     output(*command, "-I", DROP_IN, "-I", INCLUDE)
 
 
-def test_two_headers_of_xxhash_are_an_error(need, tmp_path):
+@pytest.mark.parametrize("lines, text", [
+    (f'#include <xxhash.h>\n#include "{DROP_IN}/xxhash.h"\n', "another xxhash.h was included before that of sketch_hash"),
+    ('#include "sketch_hash.h"\n#define SKETCH_HASH_INLINE\n#include "sketch_hash.c"\n', "define SKETCH_HASH_INLINE before"),
+], ids=["two headers of xxHash", "inline too late"])
+def test_a_wrong_order_of_headers_is_an_error(lines, text, need, tmp_path):
     need("gcc", "xxhash.h")
-    (tmp_path / "a.c").write_text(f'#include <xxhash.h>\n#include "{DROP_IN}/xxhash.h"\n')
-    command = ["gcc", "-c", "-o", tmp_path / "a.o", tmp_path / "a.c", "-I", INCLUDE]
+    (tmp_path / "a.c").write_text(lines)
+    command = ["gcc", "-c", "-o", tmp_path / "a.o", tmp_path / "a.c", "-I", INCLUDE, "-I", DIST]
     done = subprocess.run(command, stderr=subprocess.PIPE, text=True)
-    assert done.returncode and "another xxhash.h was included before that of sketch_hash" in done.stderr
+    assert done.returncode and text in done.stderr

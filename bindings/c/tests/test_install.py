@@ -88,12 +88,6 @@ def test_an_upgrade_replaces_the_library_in_use(prefix, make, tmp_path):
     assert not (prefix / "lib" / SHARED).samefile(tmp_path / "in_use")
 
 
-@pytest.mark.parametrize("name", ["PREFIX", "LIBDIR"])
-def test_install_rejects_a_relative_folder(name, make, tmp_path):
-    done = make("install", f"DESTDIR={tmp_path}/", f"{name}=here")
-    assert done.returncode and "no absolute path: here" in done.stderr and files_in(tmp_path) == set()
-
-
 def test_uninstall_keeps_other_files(prefix, make):
     others = {"include/sketch_hash2.h", "lib/libsketch_hash.so.1", "share/man/man3/sketch_hash.3"}
     for name in others:
@@ -244,13 +238,17 @@ def test_meson_builds_the_lines_of_the_page(need, tmp_path):
     assert output(tmp_path / "build/fox") == FOX
 
 
-def test_a_shared_library_hides_the_archive_in_it(make, dist, need, tmp_path):
-    """Else it would answer the calls of another version in the program. And the archive's code can be moved."""
+@pytest.mark.parametrize("embedded", ["libsketch_hash.a", "sketch_hash.c"])
+def test_a_shared_library_hides_the_copy_in_it(embedded, make, dist, need, tmp_path):
+    """The archive, whose code can be moved, or the text with the option of dist/README.md. Exported calls could replace those
+    of another version in the same process."""
     need("nm")
+    option = re.search(r"`(-fvisibility=hidden)`", (DIST / "README.md").read_text())[1]
     assert make().returncode == 0
-    (tmp_path / "plugin.c").write_text('#include "sketch_hash.h"\nuint64_t plugin(void) { return sketch_xxh64("fox", 3, 0); }')
-    archive = dist / "libsketch_hash.a"
-    output("gcc", "-fPIC", "-shared", "-I", DIST / "include", "-o", tmp_path / "plugin.so", tmp_path / "plugin.c", archive)
+    (tmp_path / "plugin.c").write_text('#include "sketch_hash.h"\n__attribute__((visibility("default"))) uint64_t plugin(void) '
+                                       '{ return sketch_xxh64("fox", 3, 0); }')
+    command = ["gcc", "-fPIC", "-shared", "-I", DIST / "include", "-o", tmp_path / "plugin.so", tmp_path / "plugin.c"]
+    output(*command, dist / embedded, *([option] if embedded.endswith(".c") else []))
     exported = output("nm", "-D", "--defined-only", tmp_path / "plugin.so")
     assert " T plugin" in exported and "sketch_" not in exported
 
@@ -261,11 +259,11 @@ REFUSED = ['quote"', "back`quote", "hash#", "semi;colon"]
 
 
 @pytest.mark.parametrize("variable", ["PREFIX", "LIBDIR", "INCLUDEDIR"])
-@pytest.mark.parametrize("name", [*REFUSED, "$$dollar", "back\\slash"])
-def test_make_refuses_a_folder_that_pkg_config_would_misread(variable, name, make, tmp_path):
-    done = make("install", f"DESTDIR={tmp_path}", f"{variable}=/{name}")
-    assert done.returncode and "a file for pkg-config can name no folder with" in done.stderr
-    assert files_in(tmp_path) == set()
+@pytest.mark.parametrize("name, text", [("here", "no absolute path: here"), *(
+    (f"/{name}", "a file for pkg-config can name no folder with") for name in (*REFUSED, "$$dollar", "back\\slash"))])
+def test_make_refuses_a_folder_that_pkg_config_would_misread(variable, name, text, make, tmp_path):
+    done = make("install", f"DESTDIR={tmp_path}/", f"{variable}={name}")
+    assert done.returncode and text in done.stderr and files_in(tmp_path) == set()
 
 
 @pytest.mark.parametrize("name", [*REFUSED, "$dollar"])  # of a backslash CMake itself makes a slash

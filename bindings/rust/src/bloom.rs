@@ -2,7 +2,7 @@
 
 use crate::calls::*;
 use crate::columns::reachable;
-use crate::columns::sealed::{Calls, Width};
+use crate::columns::sealed::Width;
 use crate::{Error, Number, Offset};
 use alloc::{vec, vec::Vec};
 use core::fmt;

@@ -31,43 +31,6 @@ pub struct Murmur3X64_128State {
     pub waiting: [u8; 16],
 }
 
-/// Hashes each key: input, length, offsets, offset_count, seed, out, count, wrong_offset.
-pub type HashEach<O, H> = unsafe extern "C" fn(
-    *const u8,
-    usize,
-    *const O,
-    usize,
-    u64,
-    *mut H,
-    usize,
-    &mut usize,
-) -> c_int;
-
-/// Inserts each key: bits, length, keys, keys_length, offsets, offset_count, wrong_offset.
-pub type InsertEach<O> =
-    unsafe extern "C" fn(*mut u8, usize, *const u8, usize, *const O, usize, &mut usize) -> c_int;
-
-/// Looks up each key: bits, length, keys, keys_length, offsets, offset_count, found, count,
-/// wrong_offset.
-pub type ContainsEach<O> = unsafe extern "C" fn(
-    *const u8,
-    usize,
-    *const u8,
-    usize,
-    *const O,
-    usize,
-    *mut bool,
-    usize,
-    &mut usize,
-) -> c_int;
-
-/// Inserts each value: bits, length, values, count.
-pub type InsertValues<V> = unsafe extern "C" fn(*mut u8, usize, *const V, usize) -> c_int;
-
-/// Looks up each value: bits, length, values, value_count, found, count.
-pub type ContainsValues<V> =
-    unsafe extern "C" fn(*const u8, usize, *const V, usize, *mut bool, usize) -> c_int;
-
 /// Declares calls of the copy of the library that this crate compiles. `build.rs` gives its names a
 /// prefix that no other copy in the program has.
 macro_rules! calls {
@@ -87,14 +50,6 @@ calls! {
     unsafe fn sketch_xxh64_update(state: &mut Xxh64State, input: *const u8, length: usize);
     safe fn sketch_xxh64_digest(state: &Xxh64State) -> u64;
 
-    unsafe fn sketch_xxh64_each32(
-        input: *const u8, length: usize, offsets: *const u32, offset_count: usize, seed: u64,
-        out: *mut u64, count: usize, wrong_offset: &mut usize,
-    ) -> c_int;
-    unsafe fn sketch_xxh64_each64(
-        input: *const u8, length: usize, offsets: *const u64, offset_count: usize, seed: u64,
-        out: *mut u64, count: usize, wrong_offset: &mut usize,
-    ) -> c_int;
     unsafe fn sketch_xxh64_each_u64(
         values: *const u64, value_count: usize, seed: u64, out: *mut u64, count: usize,
     ) -> c_int;
@@ -106,14 +61,6 @@ calls! {
     safe fn sketch_murmur3_x64_128_digest(state: &Murmur3X64_128State, hash: &mut [u64; 2]);
     safe fn sketch_murmur3_x64_128_bytes(hash: &[u64; 2], out: &mut [u8; 16]);
     safe fn sketch_seed_hash(seed: u64, hash: &mut u16) -> c_int;
-    unsafe fn sketch_murmur3_x64_128_each32(
-        input: *const u8, length: usize, offsets: *const u32, offset_count: usize, seed: u64,
-        out: *mut [u64; 2], count: usize, wrong_offset: &mut usize,
-    ) -> c_int;
-    unsafe fn sketch_murmur3_x64_128_each64(
-        input: *const u8, length: usize, offsets: *const u64, offset_count: usize, seed: u64,
-        out: *mut [u64; 2], count: usize, wrong_offset: &mut usize,
-    ) -> c_int;
 
     safe fn sketch_bloom_bytes_for(keys: u64, one_in: u64) -> usize;
     safe fn sketch_bloom_check(length: usize) -> c_int;
@@ -125,39 +72,8 @@ calls! {
     ) -> c_int;
     unsafe fn sketch_bloom_insert_hash(bits: *mut u8, length: usize, hash: u64) -> c_int;
     unsafe fn sketch_bloom_contains_hash(bits: *const u8, length: usize, hash: u64) -> c_int;
-    unsafe fn sketch_bloom_insert_each32(
-        bits: *mut u8, length: usize, keys: *const u8, keys_length: usize, offsets: *const u32,
-        offset_count: usize, wrong_offset: &mut usize,
-    ) -> c_int;
-    unsafe fn sketch_bloom_insert_each64(
-        bits: *mut u8, length: usize, keys: *const u8, keys_length: usize, offsets: *const u64,
-        offset_count: usize, wrong_offset: &mut usize,
-    ) -> c_int;
-    unsafe fn sketch_bloom_insert_each_u32(
-        bits: *mut u8, length: usize, values: *const u32, count: usize,
-    ) -> c_int;
-    unsafe fn sketch_bloom_insert_each_u64(
-        bits: *mut u8, length: usize, values: *const u64, count: usize,
-    ) -> c_int;
     unsafe fn sketch_bloom_insert_each_hash(
         bits: *mut u8, length: usize, hashes: *const u64, count: usize,
-    ) -> c_int;
-    // A `bool` is one byte, 1 or 0, and the library writes no other.
-    unsafe fn sketch_bloom_contains_each32(
-        bits: *const u8, length: usize, keys: *const u8, keys_length: usize, offsets: *const u32,
-        offset_count: usize, found: *mut bool, count: usize, wrong_offset: &mut usize,
-    ) -> c_int;
-    unsafe fn sketch_bloom_contains_each64(
-        bits: *const u8, length: usize, keys: *const u8, keys_length: usize, offsets: *const u64,
-        offset_count: usize, found: *mut bool, count: usize, wrong_offset: &mut usize,
-    ) -> c_int;
-    unsafe fn sketch_bloom_contains_each_u32(
-        bits: *const u8, length: usize, values: *const u32, value_count: usize, found: *mut bool,
-        count: usize,
-    ) -> c_int;
-    unsafe fn sketch_bloom_contains_each_u64(
-        bits: *const u8, length: usize, values: *const u64, value_count: usize, found: *mut bool,
-        count: usize,
     ) -> c_int;
     unsafe fn sketch_bloom_contains_each_hash(
         bits: *const u8, length: usize, hashes: *const u64, hash_count: usize, found: *mut bool,
@@ -171,4 +87,59 @@ calls! {
     safe fn sketch_bloom_block_offset(length: usize, hash: u64) -> usize;
     unsafe fn sketch_bloom_header_write(bytes: u64, header: *mut u8, length: usize) -> usize;
     unsafe fn sketch_bloom_header_read(input: *const u8, length: usize, bytes: &mut u64) -> usize;
+}
+
+/// Declares calls that read offsets or numbers, `Bits`, by one name for those of a width.
+macro_rules! calls_by_width {
+    ($($NAME:ident: $Call:ident($($argument:ident: $Type:ty),* $(,)?) = $call32:ident, $call64:ident;)*) => {
+        $(pub type $Call<Bits> = unsafe extern "C" fn($($Type),*) -> c_int;)*
+
+        /// The calls that read a type of offsets or numbers.
+        pub trait Calls: Sized {
+            $(const $NAME: $Call<Self>;)*
+        }
+
+        impl Calls for u32 {$(
+            const $NAME: $Call<u32> = {
+                type Bits = u32;
+                calls! { unsafe fn $call32($($argument: $Type),*) -> c_int; }
+                $call32
+            };
+        )*}
+
+        impl Calls for u64 {$(
+            const $NAME: $Call<u64> = {
+                type Bits = u64;
+                calls! { unsafe fn $call64($($argument: $Type),*) -> c_int; }
+                $call64
+            };
+        )*}
+    };
+}
+
+calls_by_width! {
+    XXH64: HashEach(
+        input: *const u8, length: usize, offsets: *const Bits, offset_count: usize, seed: u64,
+        out: *mut u64, count: usize, wrong_offset: &mut usize,
+    ) = sketch_xxh64_each32, sketch_xxh64_each64;
+    MURMUR: HashEachInTwoWords(
+        input: *const u8, length: usize, offsets: *const Bits, offset_count: usize, seed: u64,
+        out: *mut u64, count: usize, wrong_offset: &mut usize,
+    ) = sketch_murmur3_x64_128_each32, sketch_murmur3_x64_128_each64;
+    INSERT: InsertEach(
+        bits: *mut u8, length: usize, keys: *const u8, keys_length: usize, offsets: *const Bits,
+        offset_count: usize, wrong_offset: &mut usize,
+    ) = sketch_bloom_insert_each32, sketch_bloom_insert_each64;
+    // A `bool` is one byte, 1 or 0, and the library writes no other.
+    CONTAINS: ContainsEach(
+        bits: *const u8, length: usize, keys: *const u8, keys_length: usize, offsets: *const Bits,
+        offset_count: usize, found: *mut bool, count: usize, wrong_offset: &mut usize,
+    ) = sketch_bloom_contains_each32, sketch_bloom_contains_each64;
+    INSERT_VALUES: InsertValues(
+        bits: *mut u8, length: usize, values: *const Bits, count: usize,
+    ) = sketch_bloom_insert_each_u32, sketch_bloom_insert_each_u64;
+    CONTAINS_VALUES: ContainsValues(
+        bits: *const u8, length: usize, values: *const Bits, value_count: usize, found: *mut bool,
+        count: usize,
+    ) = sketch_bloom_contains_each_u32, sketch_bloom_contains_each_u64;
 }

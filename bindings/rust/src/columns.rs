@@ -75,44 +75,17 @@ pub(crate) mod sealed {
         )*)* };
     }
     widths! { u32: u32 i32 f32, u64: u64 i64 f64, }
-
-    /// The calls that read offsets or numbers of a width.
-    pub trait Calls: Sized {
-        const XXH64: HashEach<Self, u64>;
-        const MURMUR: HashEach<Self, [u64; 2]>;
-        const INSERT: InsertEach<Self>;
-        const CONTAINS: ContainsEach<Self>;
-        const INSERT_VALUES: InsertValues<Self>;
-        const CONTAINS_VALUES: ContainsValues<Self>;
-    }
-
-    impl Calls for u32 {
-        const XXH64: HashEach<u32, u64> = sketch_xxh64_each32;
-        const MURMUR: HashEach<u32, [u64; 2]> = sketch_murmur3_x64_128_each32;
-        const INSERT: InsertEach<u32> = sketch_bloom_insert_each32;
-        const CONTAINS: ContainsEach<u32> = sketch_bloom_contains_each32;
-        const INSERT_VALUES: InsertValues<u32> = sketch_bloom_insert_each_u32;
-        const CONTAINS_VALUES: ContainsValues<u32> = sketch_bloom_contains_each_u32;
-    }
-
-    impl Calls for u64 {
-        const XXH64: HashEach<u64, u64> = sketch_xxh64_each64;
-        const MURMUR: HashEach<u64, [u64; 2]> = sketch_murmur3_x64_128_each64;
-        const INSERT: InsertEach<u64> = sketch_bloom_insert_each64;
-        const CONTAINS: ContainsEach<u64> = sketch_bloom_contains_each64;
-        const INSERT_VALUES: InsertValues<u64> = sketch_bloom_insert_each_u64;
-        const CONTAINS_VALUES: ContainsValues<u64> = sketch_bloom_contains_each_u64;
-    }
 }
 
-use sealed::Calls;
-
-fn each<O: Offset, H>(
-    call: HashEach<O::Bits, H>, input: &[u8], offsets: &[O], seed: u64, out: &mut [H],
+/// # Safety
+///
+/// `call` writes an `H` for each key.
+unsafe fn each<O: Offset, H>(
+    call: HashEach<O::Bits>, input: &[u8], offsets: &[O], seed: u64, out: &mut [H],
 ) -> Result<(), Error> {
     let (input, mut wrong_offset) = (reachable::<O>(input), 0);
     // SAFETY: a slice is readable for its length, which is below 2^63, and does not change while it
-    // is borrowed. `out` is borrowed alone, and any words are an H.
+    // is borrowed. `out` is borrowed alone.
     let status = unsafe {
         call(
             input.as_ptr(),
@@ -120,7 +93,7 @@ fn each<O: Offset, H>(
             offsets.as_ptr().cast(),
             offsets.len(),
             seed,
-            out.as_mut_ptr(),
+            out.as_mut_ptr().cast(),
             out.len(),
             &mut wrong_offset,
         )
@@ -149,7 +122,8 @@ fn each<O: Offset, H>(
 pub fn xxh64_each<O: Offset>(
     input: &[u8], offsets: &[O], seed: u64, out: &mut [u64],
 ) -> Result<(), Error> {
-    each(O::Bits::XXH64, input, offsets, seed, out)
+    // SAFETY: XXH64 is one word.
+    unsafe { each(O::Bits::XXH64, input, offsets, seed, out) }
 }
 
 /// Hashes each number of a column, as [`xxh64_u64`](crate::xxh64_u64) does.
@@ -192,5 +166,6 @@ pub fn xxh64_each_u64(values: &[u64], seed: u64, out: &mut [u64]) -> Result<(), 
 pub fn murmur3_x64_128_each<O: Offset>(
     input: &[u8], offsets: &[O], seed: u64, out: &mut [[u64; 2]],
 ) -> Result<(), Error> {
-    each(O::Bits::MURMUR, input, offsets, seed, out)
+    // SAFETY: the hash is two words.
+    unsafe { each(O::Bits::MURMUR, input, offsets, seed, out) }
 }

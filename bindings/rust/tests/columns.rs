@@ -89,23 +89,12 @@ fn a_length_or_an_offset_may_be_past_32_bits() {
 }
 
 #[test]
-fn extra_offsets_are_not_read() {
+fn only_offsets_of_keys_are_read() {
     let mut out = [5; 2];
     xxh64_each(b"fox", &[0_u32, 3, 99], SEED, &mut out[..1]).unwrap();
     assert_eq!(out, [xxh64(b"fox", SEED), 5]);
-}
-
-#[test]
-fn a_column_of_no_keys_needs_no_offset() {
     assert_eq!(xxh64_each(b"fox", &[] as &[u32], SEED, &mut []), Ok(()));
     assert_eq!(murmur3_x64_128_each(b"fox", &[3_u64], SEED, &mut []), Ok(()));
-}
-
-#[test]
-fn a_missing_number_is_an_error() {
-    let mut out = [5; 3];
-    assert_eq!(xxh64_each_u64(&[7, 8], SEED, &mut out), Err(Error::Count));
-    assert_eq!(out, [5; 3]);
 }
 
 // ---- Bloom filters
@@ -207,12 +196,13 @@ fn a_number_of_each_type_is_its_plain_bytes() {
 
 #[test]
 fn missing_values_are_an_error() {
-    let (filter, mut found) = (filter_of_keys(), [true, false, true]);
+    let (filter, mut found, mut out) = (filter_of_keys(), [true, false, true], [5; 3]);
+    assert_eq!(xxh64_each_u64(&[7, 8], SEED, &mut out), Err(Error::Count));
     assert_eq!(filter.contains_each_number(&[1, 2], &mut found), Err(Error::Count));
     assert_eq!(filter.contains_each_hash(&[1, 2], &mut found), Err(Error::Count));
     let missing = filter.contains_each(b"", &[0_u32, 0], &mut found);
     assert_eq!(missing, Err(Error::Offset { index: 2 }));
-    assert_eq!(found, [true, false, true]);
+    assert_eq!((found, out), ([true, false, true], [5; 3]));
 }
 
 #[test]

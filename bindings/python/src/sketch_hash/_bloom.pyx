@@ -28,6 +28,8 @@ cdef enum:
     READ_ONLY = -100  # not a status of the library
     OVERLAP = -101
 
+cdef double DEFAULT_RATE = 0.01  # that of add_filters is in parquet/writer.py
+
 
 cdef inline uint64_t hash_of(object key) except? -1:
     """XXH64 of a key. The filter takes the hash, so a key may be in the filter's own memory."""
@@ -250,7 +252,7 @@ cdef class BloomFilter:
         if error_rate is not None and one_in is not None:
             raise TypeError("for_keys takes one of error_rate, as 0.01, and one_in, as 100")
         if one_in is None:
-            one_in = one_in_of(0.01 if error_rate is None else error_rate)
+            one_in = one_in_of(DEFAULT_RATE if error_rate is None else error_rate)
         if one_in == 0:
             raise ValueError("one_in must be at least 1, not 0")
         cdef size_t num_bytes = sketch_bloom_bytes_for(word_of(keys, "keys"), word_of(one_in, "one_in"))

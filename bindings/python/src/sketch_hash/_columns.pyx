@@ -80,7 +80,7 @@ cdef str advice_for(object keys):
 
 cdef Column keys_of(object keys):
     """The keys of a filter."""
-    return texts_or_numbers(keys, key_rule)
+    return column_of(keys, key_rule)
 
 
 cdef Column hashes_of(object hashes):
@@ -90,17 +90,15 @@ cdef Column hashes_of(object hashes):
     return column
 
 
-cdef Column texts_or_numbers(object keys, NumberRule rule):
-    return texts_of(keys) if isinstance(keys, tuple) or is_arrow(keys) else numbers_of(keys, rule)
-
-
-cdef Column texts_of(object keys):
-    """Keys that are a pair, or of Arrow."""
+cdef Column column_of(object keys, NumberRule rule):
+    """Keys that are a pair, or of Arrow, or numbers if there is a rule for them."""
     if isinstance(keys, tuple) and len(<tuple>keys) == 2:
         return pair_of(keys)
     if is_arrow(keys):
         return arrow_of(keys)
-    raise TypeError(f"a column here must be {PAIR} or an Arrow array{advice_for(keys)}")
+    if rule is None or isinstance(keys, tuple):
+        raise TypeError(f"a column here must be {PAIR} or an Arrow array{advice_for(keys)}")
+    return numbers_of(keys, rule)
 
 
 cdef type no_arrow = bytes  # the last type of keys that export no Arrow: to look again takes a tenth of a short call
@@ -255,7 +253,7 @@ def xxh64_each(keys, seed=0):
     column(texts) returns such a pair. Or they are an Arrow array or stream, of whose values each counts as Parquet
     stores it. Raises ValueError if one is null.
     """
-    return hash_each(texts_or_numbers(keys, word_rule), 1, seed)
+    return hash_each(column_of(keys, word_rule), 1, seed)
 
 
 def murmur3_x64_128_each(keys, seed=0):
@@ -265,7 +263,7 @@ def murmur3_x64_128_each(keys, seed=0):
     The keys are a pair of bytes and offsets, or of Arrow, as xxh64_each takes them. The words of key i are at 2 * i and
     2 * i + 1: numpy.asarray(hashes).reshape(-1, 2) has a row for a key.
     """
-    return hash_each(texts_of(keys), 2, seed)
+    return hash_each(column_of(keys, None), 2, seed)
 
 
 def column(texts):

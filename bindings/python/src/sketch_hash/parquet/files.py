@@ -87,8 +87,7 @@ class Source:
         show that."""
         if self.is_local:
             found = os.fstat(self.file.fileno()), *map(os.stat, paths)
-            if {*map(version_of, found)} != {version_of(self.status)}:
-                raise ValueError("the file must not change while it is read")
+            check_equal(version_of(self.status), *map(version_of, found))
 
     def read_each(self, ranges):
         """Yields the bytes of each (begin, length). Those that follow each other closely are read at once."""
@@ -107,6 +106,11 @@ class Source:
         data = self.read(begin, end - begin) if run else b""
         for place, length in run:
             yield data[place - begin:place - begin + length]
+
+
+def check_equal(before, *versions):
+    if any(version != before for version in versions):
+        raise ValueError("the file must not change while it is read")
 
 
 def version_of(status):

@@ -7,7 +7,8 @@ import re
 
 from .. import xxh64
 from .commit import ChangedError
-from .files import CHANGES, UNFINISHED, Source, close, copy_attributes, fcntl, is_left, lock, open_file, version_of
+from .files import (
+    CHANGES, UNFINISHED, Source, check_equal, close, copy_attributes, fcntl, is_left, lock, open_file, version_of)
 
 
 def place_of(file, filesystem=None):
@@ -233,8 +234,7 @@ class Stored:
         return [info.base_name for info in self.list(folder, allow_not_found=True)] or None
 
     def check_unchanged(self, source):
-        if self.before != self.version():
-            raise ValueError("the file must not change while it is read")
+        check_equal(self.before, self.version())
 
     def hold(self, stack):
         """Returns the version of the file. A store has no locks."""

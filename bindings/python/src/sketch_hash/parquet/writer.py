@@ -10,7 +10,7 @@ from .reader import BloomFilterReader, all_places, false_positive_rate, places_o
 from .stores import each_once, place_of
 
 MOST_BYTES = 128 << 20  # of a filter that Arrow reads
-ABOUT_ONE_PERCENT = 1 / 28  # at most: of 8 to 16 bits for each value, since sizes are powers of two
+DEFAULT_RATE = 1 / 28  # at most, and about 1 %: of 8 to 16 bits for each value, since sizes are powers of two
 
 
 class FilterError(ValueError):
@@ -211,7 +211,7 @@ class Builder:
     """Builds filters with an error rate, and notes the columns whose filters help little."""
 
     def __init__(self, error_rate, max_bytes):
-        self.error_rate = ABOUT_ONE_PERCENT if error_rate is None else error_rate
+        self.error_rate = DEFAULT_RATE if error_rate is None else error_rate
         BloomFilter.for_keys(1, error_rate=self.error_rate)  # raises if it is no rate
         self.is_limited, self.notes = max_bytes is not None, []
         limit = operator.index(max_bytes) if self.is_limited else MOST_BYTES
