@@ -296,9 +296,11 @@ for name, form, none in (("option", OPTION, [number(0, 8)]), ("result", RESULT, 
     OTHERS[f"{name}_by"] = function([W, W], form, ["Bool", W], body(op(3, "Eq", L[2], number(0)), when(L[3], put(
         0, "Aggregate", *none), seq(op(4, UNSIGNED["Div"], L[1], L[2]), put(
             0, "Aggregate", number(int(name == "option"), 8), L[4])))))
+    OTHERS[f"passed_{name}"] = function([W, W], form, [form], body(
+        called(3, PATH + f"{name}_by", L[1], L[2]), put(0, "Opd", L[3])))
     is_some = int(name == "option")
     case(f"from_{name}", TWO, 64, body(
-        called(3, PATH + f"{name}_by", L[1], L[2]),
+        called(3, PATH + f"passed_{name}", L[1], L[2]),
         [{"Switch": [copy(3, 0), [[is_some]], True]}, *put(0, "Opd", copy(3, (is_some,), 1)),
          *(put(0, "Opd", number(9)) if name == "option" else op(0, "Not", copy(3, (1,), 1)))]),
          lambda a, b, o=name == "option": a // b if b else 9 if o else ~a & MASK[64], [form])
@@ -393,9 +395,9 @@ REFUSED = {  # a function, and the words by which it is refused
     "any offset": (of_two(op(3, "Offset", copy(1, 0), L[2]), put(0, "Opd", copy(3, W)), types=[slice_of(W), W],
                           locals=[reference(W)]), "no multiple of 8"),
     "a tag that is not known": (of_two(put(3, "Aggregate", L[1], L[2]), types=[INT[8], W], locals=[OPTION]), "unknown tag"),
-    "a tag at a return": (of_two(
-        called(3, PATH + "option_by", L[1], L[2]), put(0, "Opd", L[3]), result=OPTION, locals=[OPTION]),
-        "an enum that is returned, whose tag is member"),
+    "a field of an enum": (of_two(
+        called(3, PATH + "option_by", L[1], L[2]), put(place(3, (1,), 1), "Opd", number(7)), put(0, "Opd", L[3]), result=OPTION,
+        locals=[OPTION]), "the parts of Choice"),
     "what was not set": (of_two(op(0, "WrapAdd", L[3], L[1]), locals=[W]), "Undefined"),
     "a loop to two places": (of_two(
         BLOCK + seq(LOOP + seq(op(3, "Eq", L[1], L[2]), when(L[3], exit_of(1)), op(4, LT, L[1], L[2]), when(L[4], exit_of(0)),
