@@ -2,9 +2,9 @@
 import functools
 import re
 
-from machine import CALLER, IMAGE, Machine, external, forms_of, if_equal, logic, place_of, plain, shift_one, shifted
+from machine import CALLER, IMAGE, Machine, external, forms_of, if_equal, logic, on_numbers, place_of, plain, shift_one, shifted
 from values import (Stop, add, bitwise, complement, cut, extend, is_zero, join, kinds, known, lanes, mul, number, number_in,
-                    repeat, replace, rotate_right, shift_left, shift_right, sign_extend, signed, sub, unknown, width_of)
+                    repeat, replace, rotate_right, shift_left, shift_right, shift_signed, sign_extend, sub, unknown, width_of)
 
 CONDITIONS = {"eq": "e", "ne": "ne", "cc": "b", "cs": "ae", "hi": "a", "ls": "be", "mi": "s", "pl": "ns", "lt": "l", "ge": "ge",
               "le": "le", "gt": "g"}
@@ -47,11 +47,6 @@ def signed_shift_lane(x, n):
     return shift_lane(x, n)
 
 
-def arithmetic(x, n):
-    n = min(n, width_of(x) - 1)
-    return sign_extend(cut(x, n, width_of(x) - n), width_of(x))
-
-
 def by_numbers(function):
     """All operands but the first are known."""
     return lambda x, *numbers: function(x, *(known(n, "a place") for n in numbers))
@@ -62,15 +57,6 @@ def quotient(x, y):
     if None in (number_in(x), number_in(y)):
         return unknown(("quotient", x, y), width_of(x))
     return number(number_in(x) // number_in(y) if number_in(y) else 0, width_of(x))
-
-
-def on_numbers(function, is_signed=False):
-    """All operands are known."""
-    def run(*values):
-        numbers = [known(sign_extend(x, 64) if is_signed else x, "a number") for x in values]
-        return number(function(*(map(signed, numbers) if is_signed else numbers)), width_of(values[0]))
-
-    return run
 
 
 def negative(x):
@@ -125,7 +111,7 @@ PLAIN = {
     "ubfiz": by_numbers(lambda x, at, width: replace(number(0, width_of(x)), at, cut(x, 0, width))),
     "sbfiz": by_numbers(lambda x, at, width: shift_left(sign_extend(cut(x, 0, width), width_of(x)), at)),
     "extr": lambda x, y, n: cut(join(y, x), known(n, "a place"), width_of(x)),
-    "lsl": shifted(shift_left), "lsr": shifted(shift_right), "asr": shifted(arithmetic), "ror": shifted(rotate_right),
+    "lsl": shifted(shift_left), "lsr": shifted(shift_right), "asr": shifted(shift_signed), "ror": shifted(rotate_right),
     "cinc": lambda x, holds: plus_one(x) if holds else x, "cinv": lambda x, holds: complement(x) if holds else x,
     "cneg": lambda x, holds: negative(x) if holds else x, "csel": lambda x, y, holds: x if holds else y,
     "csinc": lambda x, y, holds: x if holds else plus_one(y), "csneg": lambda x, y, holds: x if holds else negative(y),
@@ -161,7 +147,7 @@ def paired(size, function, *values):
 right = by_numbers(lambda x, n: shift_right(x, min(n, width_of(x))))
 LANES = {
     "add": add, "sub": sub, "mul": mul, "neg": negative, "ushl": shift_lane, "sshl": signed_shift_lane, "cmeq": if_equal,
-    "ushr": right, "sshr": by_numbers(arithmetic), "shl": by_numbers(lambda x, n: shift_left(x, n)),
+    "ushr": right, "sshr": by_numbers(shift_signed), "shl": by_numbers(lambda x, n: shift_left(x, n)),
     "cnt": on_numbers(lambda x: bin(x).count("1")), "cmtst": lambda x, y: complement(if_equal(
         bitwise("and", x, y), number(0, width_of(x)))),
 }

@@ -42,7 +42,7 @@ def any_state(hash, total):
     return {**{name: unknown(name, 64) for name in WORDS[hash]}, "total": total, "waiting": some("waiting", PIECE[hash])}
 
 
-def total(hash, fill, least=0):
+def any_total(hash, fill, least=0):
     size = PIECE[hash].bit_length() - 1
     return join(number(fill, size), unknown("pieces", 64 - size, least))
 

@@ -153,7 +153,7 @@ class Values(Elements):
         super().__init__(machine, rest, per, is_insert=is_insert, kind=kind, width=32 if kind == "u32" else 64, size=1)
 
     def start(self, count):
-        run, n, function = self.machine(), self.number_of(count), f"{name_of(self.is_insert)}_each_{self.kind}"
+        run, n, function = self.machine(), self.number_of(count), f"{bloom_call(self.is_insert)}_each_{self.kind}"
         value_count = n if self.is_insert else add(n, extend(unknown("more", 50)))
         run.give(Array("values", values, mul(value_count, number(self.width // 8))))
         run.target = run.give(Array("old", out, n, not self.is_insert))
@@ -181,7 +181,7 @@ class Values(Elements):
         return run.filter.contains(index)
 
 
-class Key(OneCall):
+class SingleKey(OneCall):
     """A key of any length that is inserted or looked up, in a filter of any length."""
 
     def __init__(self, machine, is_insert, rest, per, **others):
@@ -189,7 +189,7 @@ class Key(OneCall):
 
     def begin_call(self, run, n):
         run.filter = run.give(Bits(lambda index: run.answer, self.is_insert))
-        run.begin(name_of(self.is_insert), [bits, any_length, input, n])
+        run.begin(bloom_call(self.is_insert), [bits, any_length, input, n])
         return run
 
     def go_to_end(self, run, after):
@@ -201,14 +201,14 @@ class Key(OneCall):
         must_have_used(run, self.is_insert)
 
 
-class KeyOfWrongLength(Key):
+class KeyOfWrongLength(SingleKey):
     """The same with a length that no filter has: the key may be read, and the filter not."""
 
     def __init__(self, machine, is_insert, length, rest, per):
         super().__init__(machine, is_insert, rest, per, wrong_length=length)
 
     def begin_call(self, run, n):
-        run.begin(name_of(self.is_insert), [bits, self.wrong_length, input, n])
+        run.begin(bloom_call(self.is_insert), [bits, self.wrong_length, input, n])
         return run
 
     def go_to_end(self, run, after):
@@ -221,7 +221,7 @@ def must_have_used(run, is_insert):
     run.must_return(OK if is_insert else extend(run.filter.contains(number(0)), 32))
 
 
-def name_of(is_insert):
+def bloom_call(is_insert):
     return "bloom_insert" if is_insert else "bloom_contains"
 
 
@@ -251,7 +251,7 @@ def one_key(machine, is_insert, function, arguments, hash):
 
 
 def one_hash(machine, is_insert):
-    one_key(machine, is_insert, f"{name_of(is_insert)}_hash", [any_hash], any_hash)
+    one_key(machine, is_insert, f"{bloom_call(is_insert)}_hash", [any_hash], any_hash)
 
 
 # ---- lengths that no filter has: none, too many blocks, and no multiple of 32. Then nothing is read or written.
@@ -299,7 +299,7 @@ class TextsCall(ColumnCall):
 
     def __init__(self, machine, is_insert, width):
         missing = {"missing": []} if is_insert else {}
-        super().__init__(machine, f"{name_of(is_insert)}_each{width}", width, 1 - is_insert, is_insert=is_insert, **missing)
+        super().__init__(machine, f"{bloom_call(is_insert)}_each{width}", width, 1 - is_insert, is_insert=is_insert, **missing)
 
     def begin(self, count, offset_count):
         return super().begin(count, add(count, number(1)) if self.is_insert else offset_count)
@@ -309,7 +309,7 @@ class TextsCall(ColumnCall):
                             offset_count=offset_count, found=out, count=count, wrong_offset=fault)
 
 
-class KeyOfColumn(Key):
+class KeyOfColumn(SingleKey):
     """A column of one key, of any length."""
 
     def __init__(self, call, rest, per):
@@ -428,8 +428,8 @@ def checks(machine):
     yield "bloom_fold", partial(wrong_folds, machine)
     wrong_results = {"bloom_check": LENGTH, "bloom_block_offset": number(-1, machine.size), "bloom_fold_to": number(0)}
     for is_insert in (True, False):
-        name = name_of(is_insert)
-        yield name, partial(prove_each_rest, partial(Key, machine, is_insert), 32)
+        name = bloom_call(is_insert)
+        yield name, partial(prove_each_rest, partial(SingleKey, machine, is_insert), 32)
         yield name, partial(one_key, machine, is_insert, name, [number(0), number(0)], FILTER.hash_of([]))
         yield name, partial(keys_of_wrong_lengths, machine, is_insert)
         yield f"{name}_hash", partial(one_hash, machine, is_insert)

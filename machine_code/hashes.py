@@ -97,7 +97,7 @@ class Update(OneCall):
     """An update of a state with so many waiting bytes, whatever the state."""
 
     def __init__(self, machine, hash, fill, rest, per):
-        before = calls.any_state(hash, calls.total(hash, fill))
+        before = calls.any_state(hash, calls.any_total(hash, fill))
         super().__init__(machine, hash, rest, per, of(hash, "state_of")(before), fill=fill, before=before)
 
     def begin_call(self, run, n):
@@ -148,7 +148,7 @@ def answering(hash, after, arguments, memory):
 
 def digest(hash, fill, least=None):
     """With no full piece before, if `least` is None; else with so many of them or more."""
-    before = calls.any_state(hash, number(fill) if least is None else calls.total(hash, fill, least))
+    before = calls.any_state(hash, number(fill) if least is None else calls.any_total(hash, fill, least))
     return answering(hash, of(hash, "state_of")(before), [state], [Memory(state, saved(before))])
 
 
@@ -158,7 +158,7 @@ def null_call(hash):
 
 
 def null_update(hash, fill):
-    before = calls.any_state(hash, calls.total(hash, fill))
+    before = calls.any_state(hash, calls.any_total(hash, fill))
     return Call([state, number(0), number(0)], [Memory(state, saved(before), saved(before))])
 
 

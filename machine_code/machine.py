@@ -7,7 +7,7 @@ import values
 from library import PARAMETERS
 from values import (Stop, Undecided, add, are_equal, bitwise, complement, cut, extend, facts, gap_of, greatest, is_below,
                     is_not_negative, is_zero, join, known, linear, must_equal, number, number_in, power_of_two, repeat,
-                    shift_left, signed, sub, total, unknown, unknowns_in, width_of)
+                    shift_left, sign_extend, signed, sub, total, unknown, unknowns_in, width_of)
 
 IMAGE = extend(join(number(0, 12), unknown("image", 50, 1)))  # where the library is
 CALLER = extend(unknown("caller", 62, 1))  # where a call returns to
@@ -34,6 +34,15 @@ def shifted(function):
         if number_in(n) is None and function is shift_left:
             return shift_one(x, extend(n, 32))
         return function(x, known(n, "a shift"))
+
+    return run
+
+
+def on_numbers(function, is_signed=False):
+    """All operands are known."""
+    def run(*values):
+        numbers = [known(sign_extend(x, 64) if is_signed else x, "a number") for x in values]
+        return number(function(*(map(signed, numbers) if is_signed else numbers)), width_of(values[0]))
 
     return run
 

@@ -699,7 +699,7 @@ def late_loops(m):
     makes = [partial(hashes.OneCall, m, hash, zero) for hash in hash_names]
     makes += [partial(hashes.Update, m, hash, 3, zero) for hash in hash_names]
     makes += [partial(filters.Merge, m, True, zero), partial(filters.Fold, m, zero), partial(columns.Numbers, m, True, zero)]
-    makes += [partial(filters.Key, m, is_insert, zero) for is_insert in (True, False)]
+    makes += [partial(filters.SingleKey, m, is_insert, zero) for is_insert in (True, False)]
     makes += [partial(filters.Values, m, is_insert, kind, zero)
               for is_insert in (True, False) for kind in ("hash", "u32", "u64")]
     runs = [partial(loops.prove, make, [2, 1]) for make in makes]

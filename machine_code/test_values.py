@@ -8,7 +8,7 @@ import loops
 import pytest
 import values
 from values import (WORD, Stop, Undecided, add, any_number, are_equal, bitwise, complement, cut, extend, is_below, is_zero,
-                    join, mul, narrow, number, number_in, number_of, power_of_two, rotate_right, shift_left, shift_right, sub,
+                    join, mul, reduced, number, number_in, number_of, power_of_two, rotate_right, shift_left, shift_right, sub,
                     unknown)
 
 WORLDS = 4  # in each, an unknown is another number
@@ -52,7 +52,7 @@ def operations_of_pieces(pick, n, width):
     yield lambda x, y: extend(join(cut(x, 0, n // 2), cut(x, n, 64 - n))), lambda x, y: x % (1 << n // 2) | x >> n << n // 2
     yield (lambda x, y: extend(cut(add(x, mul(y, number(1 << at))), min(n, 20), at)),
            lambda x, y: x + (y << at) >> min(n, 20) & (1 << at) - 1)
-    yield lambda x, y: extend(narrow(cut(add(x, mul(y, number(low))), 0, n))), lambda x, y: (x + y * low) % (1 << n)
+    yield lambda x, y: extend(reduced(cut(add(x, mul(y, number(low))), 0, n))), lambda x, y: (x + y * low) % (1 << n)
     yield (lambda x, y: mul(extend(cut(add(x, number(5)), 0, n)), number(other << 64 - n)),
            lambda x, y: (x + 5) % (1 << n) * (other << 64 - n))
 

@@ -53,7 +53,7 @@ class Undecided(Stop):
 
 
 def must_equal(found, expected, what):
-    if found != expected and narrow(found) != narrow(expected):
+    if found != expected and reduced(found) != reduced(expected):
         raise Differs(what, found, expected)
 
 
@@ -228,6 +228,12 @@ def sign_extend(value, width):
     return join(value, repeat(cut(value, width_of(value) - 1, 1), width - width_of(value)))
 
 
+def shift_signed(value, n):
+    """To the right, with copies of the sign."""
+    n = min(n, width_of(value) - 1)
+    return sign_extend(cut(value, n, width_of(value) - n), width_of(value))
+
+
 def repeat(value, times):
     return join(*[value] * times)
 
@@ -396,17 +402,17 @@ def total(n, factors):
     n, factors = n % WORD, {piece: factor % WORD for piece, factor in factors.items() if factor % WORD}
     if not factors:
         return number(n)
-    if len(factors) > 1 and (whole := with_next_bits(factors)):
+    if len(factors) > 1 and (whole := with_neighbours(factors)):
         return total(n + whole.pop(None, 0), whole)
     bits = functools.reduce(lambda x, y: x | y, factors.values())
     common = (bits & -bits).bit_length() - 1
     if common:  # no piece reaches the lowest bits: they are the number's
         above = total(signed(n) >> common, {piece: signed(factor) >> common for piece, factor in factors.items()})
         return join(number(n, common), cut(above, 0, 64 - common))
-    return side_by_side(n, factors) or sum_atom(n, factors)
+    return as_bits(n, factors) or sum_atom(n, factors)
 
 
-def with_next_bits(factors):
+def with_neighbours(factors):
     """The same with two pieces as one, if they are neighbours in an atom and their factors say so; else None."""
     starts = {piece[:2]: piece for piece in factors}
     for (a, low, width), factor in factors.items():
@@ -418,7 +424,7 @@ def with_next_bits(factors):
     return None
 
 
-def side_by_side(n, factors):
+def as_bits(n, factors):
     """The pieces as bits of one value, if no two of them, and no bit of the number, overlap; else None."""
     out, at = [], 0
     for piece, factor in sorted(factors.items(), key=lambda item: item[1]):
@@ -466,7 +472,7 @@ def mul(x, y):
     return cut(extend(atom(("product", *sorted((extend(x), extend(y)))), most.bit_length(), 0, most)), 0, size)
 
 
-def narrow(value):
+def reduced(value):
     """The same value, without what the low bits of a sum do not depend on."""
     parts = []
     for a, low, width in value:
@@ -570,7 +576,7 @@ def complement(value):
 
 def is_zero(value):
     """One bit: 1 if the value is 0. An "or" is 0 if all its operands are."""
-    pieces, todo = set(), [narrow(value)]
+    pieces, todo = set(), [reduced(value)]
     while todo:
         for a, low, width in todo.pop():
             if (low if a == NUMBER else piece_range(a, low, width)[0]):

@@ -8,7 +8,7 @@ import itertools
 import re
 
 from library import HEADER
-from machine import CALLER, STACK, Machine, fill, move, shift_one
+from machine import CALLER, STACK, Machine, fill, move, on_numbers, shift_one
 from module import COMPARISONS, NUMERIC
 from values import (NUMBER, Stop, Undecided, add, are_equal, assume_at_most, bitwise, collect, complement, cut, exact, extend,
                     facts, greatest, is_below, is_not_negative, is_zero, join, kinds, known, limits, linear, mul, number,
@@ -79,10 +79,6 @@ def with_next_bits(value):
 
 # ---- numeric instructions, of values of 64 bits. Those of i32 that are not in ANY_BITS are given 32 bits, extended.
 
-def on_numbers(function):
-    return lambda width, *operands: number(function(width, *(known(item, "a number") for item in operands)))
-
-
 def divisor(n):
     if not n:
         raise Stop("a trap: a division by 0")
@@ -107,7 +103,7 @@ def count_in(width, n):
     return known(cut(n, 0, width.bit_length() - 1), "a shift")
 
 
-def shift_left(width, x, n):
+def shl(width, x, n):
     """An unknown number shifts 1 alone."""
     n = cut(n, 0, width.bit_length() - 1)
     if number_in(n) is not None:
@@ -146,8 +142,8 @@ def signed_part(size):
     return lambda width, x: sign_extend(cut(x, 0, size), 64)
 
 
-def of_sum(function):
-    return lambda width, x, y: function(x, y)
+def of_any_width(function):
+    return lambda width, *operands: function(*operands)
 
 
 def comparison(name):
@@ -160,7 +156,7 @@ def comparison(name):
 
 
 ANY_BITS = {
-    "add": of_sum(add), "sub": of_sum(sub), "mul": product, "shl": shift_left, "wrap_i64": lambda width, x: x,
+    "add": of_any_width(add), "sub": of_any_width(sub), "mul": product, "shl": shl, "wrap_i64": lambda width, x: x,
     "and": intersection, "or": bit_by_bit("or"), "xor": bit_by_bit("xor"),
     "rotl": lambda width, x, n: extend(rotate_right(cut(x, 0, width), -count_in(width, n) % width)),
     "rotr": lambda width, x, n: extend(rotate_right(cut(x, 0, width), count_in(width, n))),
@@ -171,14 +167,16 @@ EXACT = {
     "eqz": lambda width, x: extend(is_zero(x)), "eq": lambda width, x, y: extend(are_equal(x, y)),
     "ne": lambda width, x, y: extend(complement(are_equal(x, y))),
     "shr_u": lambda width, x, n: shift_right(x, count_in(width, n)), "extend_i32_u": lambda width, x: narrow(x),
-    "div_u": on_numbers(lambda width, x, y: x // divisor(y)), "rem_u": on_numbers(lambda width, x, y: x % divisor(y)),
-    "popcnt": on_numbers(lambda width, x: bin(x).count("1")), "clz": on_numbers(lambda width, x: width - x.bit_length()),
-    "ctz": on_numbers(lambda width, x: (x & -x).bit_length() - 1 if x else width),
+    "div_u": of_any_width(on_numbers(lambda x, y: x // divisor(y))),
+    "rem_u": of_any_width(on_numbers(lambda x, y: x % divisor(y))),
+    "popcnt": of_any_width(on_numbers(lambda x: bin(x).count("1"))),
+    "clz": lambda width, x: on_numbers(lambda n: width - n.bit_length())(x),
+    "ctz": lambda width, x: on_numbers(lambda n: (n & -n).bit_length() - 1 if n else width)(x),
     **{name: comparison(name) for name in COMPARISONS[3:]},
 }
 
 
-def operation(name):
+def operation_of(name):
     width, what = int(name[1:3]), name[4:]
     if what in ANY_BITS:
         return functools.partial(ANY_BITS[what], width)
@@ -187,7 +185,7 @@ def operation(name):
     return lambda *operands: EXACT[what](width, *map(narrow, operands))
 
 
-OPERATIONS = {name: operation(name) for name in NUMERIC.values() if {name[4:]} & {*ANY_BITS, *EXACT}}
+OPERATIONS = {name: operation_of(name) for name in NUMERIC.values() if {name[4:]} & {*ANY_BITS, *EXACT}}
 
 
 def types_of(header):

@@ -5,8 +5,8 @@ import re
 
 from machine import CALLER, IMAGE, Machine, count_of, forms_of, if_equal, logic, plain, reads, shift_one, shifted
 from values import (BITS, Stop, Undecided, add, bitwise, complement, cut, extend, is_below, is_zero, join, kinds,
-                    known, lanes, mul, number, number_in, repeat, replace, rotate_right, shift_left, shift_right, sign_extend,
-                    signed, sub, unknown, width_of)
+                    known, lanes, mul, number, number_in, repeat, replace, rotate_right, shift_left, shift_right, shift_signed,
+                    sign_extend, signed, sub, unknown, width_of)
 
 REGISTERS = {f"r{n}{end}": (f"r{n}", width) for n in range(8, 16) for end, width in (("", 64), ("d", 32), ("w", 16), ("b", 8))}
 for item in "ax bx cx dx si di bp sp".split():
@@ -85,7 +85,7 @@ def rotate(sign):
     return run
 
 
-def plus_one(sign):
+def step(sign):
     return lambda m, x: m.compare("other", x, None, add(x, number(1, width_of(x)), sign))
 
 
@@ -131,11 +131,11 @@ def test_bit(change):
 
 CONDITIONAL = {
     "add": Machine.sum, "sub": Machine.subtract, "cmp": Machine.subtract, "adc": with_carry(1), "sbb": with_carry(-1),
-    "neg": lambda m, x: m.subtract(number(0, width_of(x)), x), "inc": plus_one(1), "dec": plus_one(-1),
+    "neg": lambda m, x: m.subtract(number(0, width_of(x)), x), "inc": step(1), "dec": step(-1),
     "imul": lambda m, x, y: m.compare(None, x, y, mul(x, y)), "and": logic("and"), "test": logic("and"), "or": logic("or"),
     "xor": logic("xor"), "andn": lambda m, x, y: logic("and")(m, complement(x), y), "ptest": is_covered,
     "shl": shift(shift_left), "shr": shift(shift_right), "rol": rotate(-1), "ror": rotate(1),
-    "sar": shift(lambda x, n: arithmetic(x, n)),
+    "sar": shift(shift_signed),
     "shld": lambda m, x, y, n: double_shift(m, y, x, width_of(x) - known(count_of(x, n), "a shift")),
     "shrd": lambda m, x, y, n: double_shift(m, x, y, known(count_of(x, n), "a shift")),
     "bt": test_bit(lambda x, bit: x), "bts": test_bit(lambda x, bit: bitwise("or", x, bit)),
@@ -166,11 +166,6 @@ def shift_lane(function):
         return function(x, min(known(count, "a shift"), width_of(x)))
 
     return run
-
-
-def arithmetic(x, n):
-    n = min(n, width_of(x) - 1)
-    return sign_extend(cut(x, n, width_of(x) - n), width_of(x))
 
 
 def rotate_lane(x, n):
@@ -317,7 +312,7 @@ SAME = dict.fromkeys("mov movabs movzx movups movupd movdqu movaps movapd movdqa
 SAME |= {f"movdq{kind}": (1, lambda x: x) for kind in ("u8", "u16", "u32", "u64", "a32", "a64")}
 PLAIN = SAME | {
     "not": (1, complement), "bswap": (1, reversed_bytes), "rorx": (2, lambda x, n: rotate_right(x, n % width_of(x))),
-    "shlx": (2, shifted(shift_left)), "shrx": (2, shifted(shift_right)), "sarx": (2, shifted(arithmetic)),
+    "shlx": (2, shifted(shift_left)), "shrx": (2, shifted(shift_right)), "sarx": (2, shifted(shift_signed)),
     "movd": lowest(32), "movq": lowest(64), "movmskpd": signs(64), "pmovmskb": signs(8),
     "psadbw": each(64, differences), "pmaddwd": each(32, pair_products), "cvttps2dq": each(32, to_whole),
     "pmuludq": each(64, lambda x, y: mul(extend(cut(x, 0, 32)), extend(cut(y, 0, 32)))),
@@ -346,7 +341,7 @@ FAMILIES = {
     "prolv dq": lambda n: each(n, rotate_lane),
     "prol dq": lambda n: (2, lambda x, k: lanes(n, lambda lane: rotate_lane(lane, k), x)),
     "psll wdq": lambda n: each_by(n, shift_left), "psrl wdq": lambda n: each_by(n, shift_right),
-    "psra wd": lambda n: each_by(n, arithmetic), "pextr bwdq": part, "pinsr bwdq": insert, "pbroadcast bwdq": spread,
+    "psra wd": lambda n: each_by(n, shift_signed), "pextr bwdq": part, "pinsr bwdq": insert, "pbroadcast bwdq": spread,
     "pternlog dq": lambda n: (4, ternary),
     "align dq": lambda n: (3, lambda x, y, k: cut(join(y, x), n * (k % (width_of(x) // n)), width_of(x))),
     "kmov bwdq": lowest, "pcmpneq bwdq": lambda n: each(n, lambda x, y: complement(is_zero(bitwise("xor", x, y)))),

@@ -146,18 +146,6 @@ class Columns {
     }
 }
 
-function bytesFor({ calls }, keys, oneIn) {
-    const length = calls.sketch_bloom_bytes_for(checked(keys, 'keys'), checked(oneIn, ONE_IN));
-    if (length) return length >>> 0; // a result is signed
-    throw new RangeError('no Bloom filter of at most 128 MiB keeps this rate for so many keys, or oneIn is 0');
-}
-
-function blockOffset({ calls }, length, hash) {
-    const offset = calls.sketch_bloom_block_offset(lengthOf(length), checked(hash, 'a hash')) >>> 0;
-    if (offset < length) return offset;
-    throw new RangeError(`a filter must have a positive multiple of 32 bytes, not ${length}`);
-}
-
 // The bits of a filter that follows its header.
 function parquetBits(module, bytes) {
     const header = module.calls.sketch_bloom_header_read(
@@ -323,6 +311,7 @@ disposable(Filter);
 
 /** The calls of a module on columns, and its Bloom filter. */
 export function filtersOf(module) {
+    const { calls } = module;
     const columns = new Columns(module);
     // A subclass's constructor may take other arguments, so it is not called.
     const create = (kind, length, bytes) => Reflect.construct(Filter, [columns, length, bytes], kind);
@@ -330,11 +319,19 @@ export function filtersOf(module) {
     class BloomFilter extends Filter {
         constructor(length) { super(columns, length); }
 
-        static bytesFor(keys, oneIn) { return bytesFor(module, keys, oneIn); }
+        static bytesFor(keys, oneIn) {
+            const length = calls.sketch_bloom_bytes_for(checked(keys, 'keys'), checked(oneIn, ONE_IN));
+            if (length) return length >>> 0; // a result is signed
+            throw new RangeError('no Bloom filter of at most 128 MiB keeps this rate for so many keys, or oneIn is 0');
+        }
 
-        static blockOffset(length, hash) { return blockOffset(module, length, hash); }
+        static blockOffset(length, hash) {
+            const offset = calls.sketch_bloom_block_offset(lengthOf(length), checked(hash, 'a hash')) >>> 0;
+            if (offset < length) return offset;
+            throw new RangeError(`a filter must have a positive multiple of 32 bytes, not ${length}`);
+        }
 
-        static forKeys(keys, oneIn) { return create(this, bytesFor(module, keys, oneIn)); }
+        static forKeys(keys, oneIn) { return create(this, BloomFilter.bytesFor(keys, oneIn)); }
 
         static fromBytes(bytes) {
             const all = view(bytes);

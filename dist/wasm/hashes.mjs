@@ -226,12 +226,12 @@ class Stream {
 }
 disposable(Stream);
 
-function seedHash({ calls, result, memory }, seed) {
+function seedHash(module, seed) {
     const word = checked(seed, 'a seed');
-    if (calls.sketch_seed_hash(word, result)) {
+    if (module.calls.sketch_seed_hash(word, module.result)) {
         throw new RangeError(`the hash of the seed ${word} is 0, so sketches cannot use it: choose another seed`);
     }
-    return memory[result] | memory[result + 1] << 8;
+    return module.size & 0xffff;
 }
 
 /** The hashes of a module: calls on one input, and streams. */

@@ -1,4 +1,5 @@
-"""What several files of tests of Parquet use. data/ has two files that pyarrow 25 wrote."""
+"""What several files of tests of Parquet use. data/ has two files that pyarrow 25 wrote. Their footers become trees of all
+that is in them, by Apache Thrift's own library, which the package does without."""
 import datetime
 import decimal
 import io
@@ -9,8 +10,13 @@ import sys
 import time
 import uuid
 
+import pytest
 from sketch_hash import column, parquet
-from thrift_tree import TType, chunk_of, join, split
+
+pytest.importorskip("thrift")
+from thrift.protocol.TCompactProtocol import TCompactProtocol
+from thrift.Thrift import TType
+from thrift.transport.TTransport import TMemoryBuffer
 
 DATA = pathlib.Path(__file__).parent / "data"
 FILTERS, ODD = DATA / "filters.parquet", DATA / "odd.parquet"  # 24 rows in 3 row groups; those at 5 modulo 8 are null
@@ -33,6 +39,72 @@ VALUES = {
     "decimal30": lambda i: decimal.Decimal(i - 3) / 100, "uuid": lambda i: uuid.UUID(int=i),
     "list.list.element": lambda i: i + 100, "struct.x": lambda i: i, "struct.y": str,
 }
+
+
+# ---- Footers
+
+PLAIN = {TType.BOOL: "Bool", TType.BYTE: "Byte", TType.I16: "I16", TType.I32: "I32", TType.I64: "I64",
+         TType.DOUBLE: "Double", TType.STRING: "Binary"}
+
+
+def read_value(protocol, kind):
+    if kind in PLAIN:
+        return getattr(protocol, f"read{PLAIN[kind]}")()
+    if kind == TType.LIST:
+        kind, count = protocol.readListBegin()
+        items = [read_value(protocol, kind) for _ in range(count)]
+        protocol.readListEnd()
+        return kind, items
+    fields = {}
+    protocol.readStructBegin()
+    while True:
+        _, kind, number = protocol.readFieldBegin()
+        if kind == TType.STOP:
+            break
+        fields[number] = kind, read_value(protocol, kind)
+        protocol.readFieldEnd()
+    protocol.readStructEnd()
+    return fields
+
+
+def write_value(protocol, kind, value):
+    if kind in PLAIN:
+        getattr(protocol, f"write{PLAIN[kind]}")(value)
+    elif kind == TType.LIST:
+        protocol.writeListBegin(value[0], len(value[1]))
+        for item in value[1]:
+            write_value(protocol, value[0], item)
+        protocol.writeListEnd()
+    else:
+        protocol.writeStructBegin("")
+        for number, (kind, value) in value.items():
+            protocol.writeFieldBegin("", kind, number)
+            write_value(protocol, kind, value)
+            protocol.writeFieldEnd()
+        protocol.writeFieldStop()
+        protocol.writeStructEnd()
+
+
+def split(file):
+    """The bytes before the footer of a file, and the tree of its footer."""
+    data = file.read_bytes()
+    start = len(data) - 8 - int.from_bytes(data[-8:-4], "little")
+    return data[:start], read_value(TCompactProtocol(TMemoryBuffer(data[start:-8])), TType.STRUCT)
+
+
+def join(before, fields):
+    buffer = TMemoryBuffer()
+    write_value(TCompactProtocol(buffer), TType.STRUCT, fields)
+    footer = buffer.getvalue()
+    return before + footer + len(footer).to_bytes(4, "little") + b"PAR1"
+
+
+def chunk_of(fields, group, column):
+    return fields[4][1][1][group][1][1][1][column]
+
+
+def metadata_of(fields, group, column):
+    return chunk_of(fields, group, column)[3][1]
 
 
 def changed(file, change):

@@ -92,9 +92,7 @@ def test_a_join_sends_only_rows_that_can_match(run, tmp_path):
     tables = {"small": numbers[:160_000].reshape(8, -1), "large": numbers[-3_200_000:].reshape(16, -1).copy()}
     tables["large"][:, :100] = tables["small"][:, :200].reshape(16, 100)
     for name, parts in tables.items():
-        (tmp_path / name).mkdir()
-        for i, keys in enumerate(parts):
-            numpy.save(tmp_path / name / f"{i}.npy", keys)
+        save(tmp_path / name, *parts)
     output = run("join_on_cluster.py", "small", "large")
     plain = tables["large"][numpy.isin(tables["large"], tables["small"])]
     assert sorted(numpy.load(tmp_path / "joined.npy")) == sorted(plain) and len(plain) == 1600

@@ -16,12 +16,12 @@ import tracemalloc
 
 import pytest
 from helpers import in_threads, rate_of
-from parquet_files import DATA, DAY, FILTERS, ODD, UTC, VALUES, changed, moment, set_path
+from parquet_files import (
+    DATA, DAY, FILTERS, ODD, UTC, VALUES, TType, changed, chunk_of, join, metadata_of, moment, set_path, split)
 from sketch_hash import BloomFilter, column, parquet, xxh64_intdigest
 from sketch_hash.parquet.files import Source
 from sketch_hash.parquet.footer import LENGTH, OFFSET
 from sketch_hash.parquet.reader import contain_hashes, false_positive_rate
-from thrift_tree import TType, chunk_of, join, metadata_of, split
 
 numpy = pytest.importorskip("numpy")
 pytestmark = pytest.mark.filterwarnings("ignore:the filters of")

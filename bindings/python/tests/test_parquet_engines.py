@@ -3,10 +3,9 @@ import types
 
 import pytest
 from helpers import TYPES, column_of, rate_of
-from parquet_files import FILTERS, changed
+from parquet_files import FILTERS, changed, split
 from sketch_hash import parquet
 from sketch_hash.parquet.pyarrow_values import stored_values
-from thrift_tree import split
 
 pytest.importorskip("numpy")
 pytestmark = pytest.mark.filterwarnings("ignore:the filters of")

@@ -13,13 +13,12 @@ import warnings
 
 import pytest
 from faulty_store import Calls, does_nothing, error_of, fails, fails_when_done, is_interrupted, is_interrupted_when_done
-from parquet_files import FILTERS, ODD, VALUES, changed, set_path, texts
+from parquet_files import FILTERS, ODD, VALUES, TType, changed, chunk_of, metadata_of, set_path, split, texts
 from sketch_hash import column, parquet
 from sketch_hash.parquet import writer
 from sketch_hash.parquet.files import Source
 from sketch_hash.parquet.footer import LENGTH, OFFSET, VALUES as VALUE_COUNT
 from sketch_hash.parquet.pyarrow_values import stored_values
-from thrift_tree import TType, chunk_of, metadata_of, split
 
 pytest.importorskip("numpy")
 pytestmark = pytest.mark.filterwarnings("ignore:the filters of")
@@ -454,10 +453,6 @@ def test_a_lock_that_only_readers_have_does_no_harm(copy):
     with open(copy, "rb") as other:
         fcntl.flock(other, fcntl.LOCK_SH)
         parquet.add_filters(copy, copy, ["plain"])
-    with open(copy, "rb") as other:
-        fcntl.flock(other, fcntl.LOCK_EX)
-        with pytest.raises(ValueError, match="^the file is locked by another program, or another run is replacing it$"):
-            parquet.add_filters(copy, copy, ["b"])
 
 
 @pytest.mark.parametrize("name", ["metadata", "_delta_log"])

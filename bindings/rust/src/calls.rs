@@ -91,7 +91,9 @@ calls! {
 
 /// Declares calls that read offsets or numbers, `Bits`, by one name for those of a width.
 macro_rules! calls_by_width {
-    ($($NAME:ident: $Call:ident($($argument:ident: $Type:ty),* $(,)?) = $call32:ident, $call64:ident;)*) => {
+    ($(
+        $NAME:ident: $Call:ident($($argument:ident: $Type:ty),* $(,)?) = $call32:ident, $call64:ident;
+    )*) => {
         $(pub type $Call<Bits> = unsafe extern "C" fn($($Type),*) -> c_int;)*
 
         /// The calls that read a type of offsets or numbers.

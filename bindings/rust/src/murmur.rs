@@ -6,7 +6,6 @@ use crate::calls::{
 };
 use crate::Error;
 use core::fmt;
-use core::hash::Hasher;
 use core::mem::transmute;
 
 /// Returns the two words of MurmurHash3 x64 128 of `input`.
@@ -62,8 +61,8 @@ fn bytes_of(hash: &[u64; 2]) -> [u8; 16] {
 
 /// MurmurHash3 x64 128 of a stream that comes in pieces.
 ///
-/// As a [`Hasher`] it hashes the bytes of each write, and finishes with the first of both words.
-/// Two streams are equal if their hashes are equal, whatever bytes follow.
+/// As a [`Hasher`](core::hash::Hasher) it hashes the bytes of each write, and finishes with the
+/// first of both words. Two streams are equal if their hashes are equal, whatever bytes follow.
 ///
 /// ```
 /// let mut hasher = sketch_hash::Murmur3X64_128::new(7);
@@ -177,22 +176,6 @@ impl fmt::Debug for Murmur3X64_128 {
     }
 }
 
-impl Hasher for Murmur3X64_128 {
-    #[inline]
-    fn write(&mut self, bytes: &[u8]) {
-        self.update(bytes);
-    }
-
-    write_lowest_byte_first!(
-        write_u16: u16, write_u32: u32, write_u64: u64, write_u128: u128, write_usize: usize
-    );
-
-    #[inline]
-    fn finish(&self) -> u64 {
-        self.digest()[0]
-    }
-}
-
 /// Builds the hashers of a map: [`Murmur3X64_128`] with one seed.
 ///
 /// ```
@@ -206,4 +189,4 @@ pub struct BuildMurmur3X64_128 {
     seed: u64,
 }
 
-stream_traits!(Murmur3X64_128, BuildMurmur3X64_128);
+stream_traits!(Murmur3X64_128, BuildMurmur3X64_128, |[first, _]| first);

@@ -11,9 +11,26 @@ macro_rules! write_lowest_byte_first {
 }
 
 /// Implements them for a stream, whose `state` has the buffer `waiting`, and for the builder of its
-/// hashers.
+/// hashers. These finish with 64 bits of the digest.
 macro_rules! stream_traits {
-    ($Stream:ident, $Build:ident) => {
+    ($Stream:ident, $Build:ident, |$digest:pat_param| $finished:expr) => {
+        impl core::hash::Hasher for $Stream {
+            #[inline]
+            fn write(&mut self, bytes: &[u8]) {
+                self.update(bytes);
+            }
+
+            write_lowest_byte_first!(
+                write_u16: u16, write_u32: u32, write_u64: u64, write_u128: u128, write_usize: usize
+            );
+
+            #[inline]
+            fn finish(&self) -> u64 {
+                let $digest = self.digest();
+                $finished
+            }
+        }
+
         impl PartialEq for $Stream {
             fn eq(&self, other: &Self) -> bool {
                 let [one, two] = [self.state, other.state].map(|mut state| {

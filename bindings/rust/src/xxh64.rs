@@ -4,7 +4,6 @@ use crate::calls::{
     sketch_xxh64, sketch_xxh64_digest, sketch_xxh64_u64, sketch_xxh64_update, Xxh64State,
 };
 use core::fmt;
-use core::hash::Hasher;
 use core::mem::transmute;
 
 /// Returns XXH64 of `input`.
@@ -30,9 +29,9 @@ pub fn xxh64_u64(value: u64, seed: u64) -> u64 {
 
 /// XXH64 of a stream that comes in pieces.
 ///
-/// As a [`Hasher`] it hashes the bytes of each write, numbers as their bytes with the lowest first.
-/// `std`'s `Hash` writes more than the bytes of a text: a `str` ends with a byte 0xff, so
-/// `BuildXxh64::new(0).hash_one("fox")` is not `xxh64(b"fox", 0)`.
+/// As a [`Hasher`](core::hash::Hasher) it hashes the bytes of each write, numbers as their bytes
+/// with the lowest first. `std`'s `Hash` writes more than the bytes of a text: a `str` ends with a
+/// byte 0xff, so `BuildXxh64::new(0).hash_one("fox")` is not `xxh64(b"fox", 0)`.
 ///
 /// Two streams are equal if their hashes are equal, whatever bytes follow.
 ///
@@ -166,22 +165,6 @@ impl fmt::Debug for Xxh64 {
     }
 }
 
-impl Hasher for Xxh64 {
-    #[inline]
-    fn write(&mut self, bytes: &[u8]) {
-        self.update(bytes);
-    }
-
-    write_lowest_byte_first!(
-        write_u16: u16, write_u32: u32, write_u64: u64, write_u128: u128, write_usize: usize
-    );
-
-    #[inline]
-    fn finish(&self) -> u64 {
-        self.digest()
-    }
-}
-
 /// Builds the hashers of a map: [`Xxh64`] with one seed.
 ///
 /// ```
@@ -194,4 +177,4 @@ pub struct BuildXxh64 {
     seed: u64,
 }
 
-stream_traits!(Xxh64, BuildXxh64);
+stream_traits!(Xxh64, BuildXxh64, |hash| hash);
