@@ -1,7 +1,7 @@
 /* sketch_hash.c 3.2.0: printed from proved text. Do not edit it: tools/print_c prints it.
  *
  * crate     sketch_c, and those that it depends on, of which PROVED says more
- * text      a68f3d5d14adc355ab4f406ebba0dff8a72a4a52fc8c69efd892b2fd7a211882
+ * text      04d63780984ea1d31860f2f01e8e3defb6d97567b80abd1ac70d7a64391f262d
  * prover    rattle-kit-13f logic dac8208d650f15bf
  * licence   Apache-2.0
  */
@@ -346,6 +346,17 @@ SKH_INLINE void skh_copy_small(unsigned char *buffer, uint64_t at, const unsigne
 
 /* ---- Offsets of columns */
 
+/* Whether all offsets are there, none is below the one before it, and the last one is within the
+ * bytes. Then all are right. It takes half the time of a check of each against the length too. */
+SKH_INLINE bool skh_all_bound32(uint64_t bytes_length, const uint32_t *offsets,
+                                uint64_t offsets_count, uint64_t keys) {
+    if (offsets_count <= keys || bytes_length < (uint64_t)skh_get32(offsets + keys)) return false;
+    for (uint64_t i = 0; i < keys; i++) {
+        if ((uint64_t)skh_get32(offsets + i + 1) < (uint64_t)skh_get32(offsets + i)) return false;
+    }
+    return true;
+}
+
 /* Checks the offset at index `i`, which must not be below the last one, and returns its place. */
 SKH_INLINE struct skh_result skh_check_offset32(uint64_t bytes_length, const uint32_t *offsets,
                                                 uint64_t offsets_count, uint64_t i, uint64_t last) {
@@ -355,12 +366,11 @@ SKH_INLINE struct skh_result skh_check_offset32(uint64_t bytes_length, const uin
     return skh_ok(place);
 }
 
-/* Checks the offsets of a column of this many keys, laid out as for `skh_murmur3_hash_each32`.
- *
- * `keys` may be any number, also UINT64_MAX: nothing is added to it. */
-SKH_INLINE struct skh_result skh_check_offsets32(uint64_t bytes_length, const uint32_t *offsets,
-                                                 uint64_t offsets_count, uint64_t keys) {
-    if (keys == 0 && offsets_count == 0) return skh_ok(0);
+/* Checks one offset after another. It is a call of its own, since it finds which one is wrong. */
+static SKH_NOINLINE struct skh_result skh_check_each_offset32(uint64_t bytes_length,
+                                                              const uint32_t *offsets,
+                                                              uint64_t offsets_count,
+                                                              uint64_t keys) {
     uint64_t last = 0;
     for (uint64_t i = 0; i < keys; i++) {
         const struct skh_result result =
@@ -374,6 +384,28 @@ SKH_INLINE struct skh_result skh_check_offsets32(uint64_t bytes_length, const ui
     return skh_ok(0);
 }
 
+/* Checks the offsets of a column of this many keys, laid out as for `skh_murmur3_hash_each32`.
+ *
+ * `keys` may be any number, also UINT64_MAX: nothing is added to it. */
+SKH_INLINE struct skh_result skh_check_offsets32(uint64_t bytes_length, const uint32_t *offsets,
+                                                 uint64_t offsets_count, uint64_t keys) {
+    if ((keys == 0 && offsets_count == 0) ||
+        skh_all_bound32(bytes_length, offsets, offsets_count, keys))
+        return skh_ok(0);
+    return skh_check_each_offset32(bytes_length, offsets, offsets_count, keys);
+}
+
+/* Whether all offsets are there, none is below the one before it, and the last one is within the
+ * bytes. Then all are right. It takes half the time of a check of each against the length too. */
+SKH_INLINE bool skh_all_bound64(uint64_t bytes_length, const uint64_t *offsets,
+                                uint64_t offsets_count, uint64_t keys) {
+    if (offsets_count <= keys || bytes_length < skh_get64(offsets + keys)) return false;
+    for (uint64_t i = 0; i < keys; i++) {
+        if (skh_get64(offsets + i + 1) < skh_get64(offsets + i)) return false;
+    }
+    return true;
+}
+
 /* Checks the offset at index `i`, which must not be below the last one, and returns its place. */
 SKH_INLINE struct skh_result skh_check_offset64(uint64_t bytes_length, const uint64_t *offsets,
                                                 uint64_t offsets_count, uint64_t i, uint64_t last) {
@@ -383,12 +415,11 @@ SKH_INLINE struct skh_result skh_check_offset64(uint64_t bytes_length, const uin
     return skh_ok(place);
 }
 
-/* Checks the offsets of a column of this many keys, laid out as for `skh_murmur3_hash_each64`.
- *
- * `keys` may be any number, also UINT64_MAX: nothing is added to it. */
-SKH_INLINE struct skh_result skh_check_offsets64(uint64_t bytes_length, const uint64_t *offsets,
-                                                 uint64_t offsets_count, uint64_t keys) {
-    if (keys == 0 && offsets_count == 0) return skh_ok(0);
+/* Checks one offset after another. It is a call of its own, since it finds which one is wrong. */
+static SKH_NOINLINE struct skh_result skh_check_each_offset64(uint64_t bytes_length,
+                                                              const uint64_t *offsets,
+                                                              uint64_t offsets_count,
+                                                              uint64_t keys) {
     uint64_t last = 0;
     for (uint64_t i = 0; i < keys; i++) {
         const struct skh_result result =
@@ -400,6 +431,17 @@ SKH_INLINE struct skh_result skh_check_offsets64(uint64_t bytes_length, const ui
         skh_check_offset64(bytes_length, offsets, offsets_count, keys, last);
     if (SKH_UNLIKELY(result.is_error)) return skh_error(result.value);
     return skh_ok(0);
+}
+
+/* Checks the offsets of a column of this many keys, laid out as for `skh_murmur3_hash_each64`.
+ *
+ * `keys` may be any number, also UINT64_MAX: nothing is added to it. */
+SKH_INLINE struct skh_result skh_check_offsets64(uint64_t bytes_length, const uint64_t *offsets,
+                                                 uint64_t offsets_count, uint64_t keys) {
+    if ((keys == 0 && offsets_count == 0) ||
+        skh_all_bound64(bytes_length, offsets, offsets_count, keys))
+        return skh_ok(0);
+    return skh_check_each_offset64(bytes_length, offsets, offsets_count, keys);
 }
 
 /* ---- XXH64 */
