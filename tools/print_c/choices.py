@@ -139,8 +139,6 @@ class Choices(Memory):
             head.facts, head.pointers = {}, []
             for (key, path), own in carried.items():
                 head.put(key, path, variable(own))
-                if key in head.owned:
-                    head.owned[key] = head.env[key]
             body: list[Node] = []
             came = self.run(frame, s.bodies[0], head.at(body), False)
             back = [own for own in came if own.target == END]

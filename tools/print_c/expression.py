@@ -187,8 +187,6 @@ def convert(e: Expression, bits: int, is_signed: bool = False) -> Expression:
 
 
 def negate(e: Expression) -> Expression:
-    if e.word == "number":
-        return number(1 - e.args[0], 1)
     if e.word in NEGATED:
         return Expression(NEGATED[e.word], BOOL, e.args)
     return e.args[0] if e.word == "!" else Expression("!", BOOL, (e,))
@@ -229,6 +227,4 @@ def divide(offset: Expression, size: int) -> Expression:
         return number(value // size, 64)
     if size > 0 and factor is not None and factor % size == 0:
         return operation("*", offset.args[0], number(factor // size, 64))
-    if offset.word == "+":
-        return operation("+", divide(offset.args[0], size), divide(offset.args[1], size))
     raise Unknown(f"an offset that is no multiple of {size}: {offset}")

@@ -175,8 +175,6 @@ def inline_once(nodes: list[Node]) -> list[Node]:
             return False
         if not node.variable.is_temporary or node.variable.is_set or reads.get(node.variable, 0) != 1:
             return False
-        if node.value.effect() == CHANGES:  # nothing else is computed there, before it or after it
-            return own in expressions_of(following) and len(expressions_of(following)) == 1
         return any(own in e.parts() for e in expressions_of(following))
 
     def walk(inner: list[Node]) -> list[Node]:
@@ -195,15 +193,12 @@ def inline_once(nodes: list[Node]) -> list[Node]:
 
 
 def arranged(node: When, is_last: bool) -> When:
-    """The arm that leaves is the first, without `!` if there is a choice. A condition in a condition is one by &&."""
+    """The arm that leaves is the first, without `!` if there is a choice."""
     condition, yes, no = node.condition, tidy(node.yes, is_last), tidy(node.no, is_last)
     if not yes or ends(no) and not ends(yes) or ends(no) and ends(yes) and size(no) < size(yes):
         condition, yes, no = negate(condition), no, yes
     if ends(yes) and ends(no) and condition.word == "!" and size(no) == size(yes):
         condition, yes, no = negate(condition), no, yes
-    inner = yes[0] if len(yes) == 1 else None
-    if not no and isinstance(inner, When) and not inner.no:
-        condition, yes = Expression("&&", condition.type, (condition, inner.condition)), inner.yes
     return When(condition, yes, no)
 
 
