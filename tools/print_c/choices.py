@@ -1,12 +1,12 @@
 """Conditions, where ways part and meet, and loops."""
 from __future__ import annotations
 
-from expression import BOOL, Expression, Variable, choose, has_value, value_of, variable
+from expression import BOOL, Expression, Variable, choose, has_value, negate, value_of, variable
 from frames import Frame
 from memory import Memory
 from mir import Statement, Unknown
 from statement import Break, Comment, Declare, Node, When, While, all_nodes
-from values import END, Key, Leaf, Parts, Path, Undefined, Value, differences, expression_of
+from values import END, Key, Leaf, Parts, Path, Undefined, Value, common, differences, expression_of
 
 Arm = tuple[list[int], list[Statement]]  # the values that lead to it, and what it does
 Merges = list[tuple[Variable, Key, list[Expression]]]  # a new variable, the local that it is for, and its value on each way
@@ -66,8 +66,8 @@ class Choices(Memory):
             condition = Expression("||", BOOL, (condition, test))
         node = When(condition, [], [])
         leaf.code.append(node)
-        yes = self.run(frame, arm, leaf.branch(condition, True, node.yes), tail)
-        return yes + self.when(frame, arms[1:], value, leaf.branch(condition, False, node.no), tail)
+        yes = self.run(frame, arm, leaf.branch(condition, node.yes), tail)
+        return yes + self.when(frame, arms[1:], value, leaf.branch(negate(condition), node.no), tail)
 
     # ---- Ways that meet
 
@@ -82,10 +82,10 @@ class Choices(Memory):
                 return None
             env[key] = merged
         leaf = first.at(code, env)
-        leaf.scope = {name: own for name, own in first.scope.items() if all(other.scope.get(name) is own for other in going)}
-        leaf.facts = {fact: holds for fact, holds in first.facts.items() if all(own.facts.get(fact) == holds for own in going)}
-        leaf.owned = {key: own for key, own in leaf.owned.items() if all(other.owned.get(key) == own for other in going)}
-        leaf.pointers = [own for own in leaf.pointers if all(own in other.pointers for other in going)]
+        leaf.scope = common([own.scope for own in going])
+        leaf.owned = common([own.owned for own in going])
+        leaf.pointers = common([own.pointers for own in going])
+        leaf.facts = frozenset.intersection(*(own.facts for own in going))
         node = code[-1]
         if isinstance(node, When) and not node.yes and not node.no and len(going) == 2 and len(merges) == 1:
             place, _, (yes, no) = merges[0]
@@ -136,7 +136,7 @@ class Choices(Memory):
         carried: dict[tuple[Key, Path], Variable] = {}
         while True:
             head = leaf.at([])
-            head.facts, head.pointers = {}, []
+            head.facts, head.pointers = frozenset(), {}
             for (key, path), own in carried.items():
                 head.put(key, path, variable(own))
             body: list[Node] = []
@@ -170,7 +170,7 @@ class Choices(Memory):
         if inner:
             raise Unknown(f"{self.path}: a value of a loop that is used after it: {[own.name for own in inner]}")
         after = after.at(leaf.code)
-        after.facts, after.scope, after.pointers = {}, leaf.scope, []
+        after.facts, after.scope, after.pointers = frozenset(), leaf.scope, {}
         return [self.left(after)]
 
     def carry(self, frame: Frame, key: Key, path: Path, leaf: Leaf) -> Variable:

@@ -115,7 +115,7 @@ class Places:
         own.is_set = True
         leaf.code.append(Set(place, value))
         leaf.forget(lambda fact: own in fact.variables())
-        leaf.pointers = [(held, e) for held, e in leaf.pointers if own not in held.variables() | e.variables()]
+        leaf.pointers = {e: held for e, held in leaf.pointers.items() if own not in held.variables() | e.variables()}
 
     def variable_for(self, e: Expression, name: str, leaf: Leaf, may_reuse: bool = False) -> Expression:
         """A variable with this value: a new one, or one of this name that nothing reads any more."""
@@ -132,12 +132,9 @@ class Places:
 
     def named_pointer(self, pointer: Expression, leaf: Leaf, name: str) -> Expression:
         """A pointer that is used several times, as a variable."""
-        for own, e in leaf.pointers:
-            if e == pointer:
-                return own
-        own = self.variable_for(pointer, name, leaf, True)
-        leaf.pointers.append((own, pointer))
-        return own
+        if pointer not in leaf.pointers:
+            leaf.pointers[pointer] = self.variable_for(pointer, name, leaf, True)
+        return leaf.pointers[pointer]
 
     def set_all(self, waiting: dict[Variable, Expression], leaf: Leaf) -> None:
         """Sets variables, each before what it reads is changed."""

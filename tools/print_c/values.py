@@ -2,7 +2,7 @@
 from __future__ import annotations
 
 from dataclasses import dataclass, field, replace
-from typing import Callable, Iterator
+from typing import Any, Callable, Iterator
 
 from expression import Expression, Variable, negate, value_of, variable
 from mir import Unknown
@@ -87,6 +87,11 @@ def leaves(value: Value) -> Iterator[Expression]:
     return iter(found)
 
 
+def common(several: list[dict[Any, Any]]) -> dict[Any, Any]:
+    """What all have alike."""
+    return {key: own for key, own in several[0].items() if all(other.get(key) == own for other in several)}
+
+
 def expression_of(value: Value) -> Expression:
     if isinstance(value, InMemory):
         return variable(value.variable)
@@ -149,28 +154,25 @@ class Leaf:
     env: dict[Key, Value]
     code: list[Node]
     scope: dict[str, Variable]
-    facts: dict[Expression, bool] = field(default_factory=dict)
+    facts: frozenset[Expression] = frozenset()  # the conditions that hold
     target: str | int = END
     owned: dict[Key, Value] = field(default_factory=dict)  # the variables of locals that are set several times
-    pointers: list[tuple[Expression, Expression]] = field(default_factory=list)  # variables, and the pointers that they hold
+    pointers: dict[Expression, Expression] = field(default_factory=dict)  # the variables that hold them
 
     def at(self, code: list[Node], env: dict[Key, Value] | None = None) -> Leaf:
         """The same elsewhere in the text."""
         return replace(self, env=dict(self.env if env is None else env), code=code, scope=dict(self.scope),
-                       facts=dict(self.facts), owned=dict(self.owned), pointers=list(self.pointers))
+                       owned=dict(self.owned), pointers=dict(self.pointers))
 
-    def branch(self, condition: Expression, holds: bool, code: list[Node]) -> Leaf:
+    def branch(self, condition: Expression, code: list[Node]) -> Leaf:
         leaf = self.at(code)
-        leaf.facts[condition] = holds
+        leaf.facts |= {condition}
         return leaf
 
     def known(self, condition: Expression) -> bool | None:
         if value_of(condition) is not None:
             return bool(value_of(condition))
-        if condition in self.facts:
-            return self.facts[condition]
-        other = negate(condition)
-        return not self.facts[other] if other in self.facts else None
+        return True if condition in self.facts else False if negate(condition) in self.facts else None
 
     def change(self, change: Callable[[Expression], Expression]) -> None:
         self.env = {key: changed(value, change) for key, value in self.env.items()}
@@ -183,7 +185,7 @@ class Leaf:
         return {own for e in self.expressions() for own in e.variables()}
 
     def forget(self, is_stale: Callable[[Expression], bool]) -> None:
-        self.facts = {fact: holds for fact, holds in self.facts.items() if not is_stale(fact)}
+        self.facts = frozenset(fact for fact in self.facts if not is_stale(fact))
 
     def put(self, key: Key, path: Path, value: Value) -> None:
         self.env[key] = put(self.env[key], path, value)
