@@ -17,12 +17,6 @@ if TYPE_CHECKING:
     from library import Printed
 
 
-def opened(e: Expression) -> Value:
-    """What a struct that a call returned stands for."""
-    first, value = (Expression("member", form, (e, name)) for name, form in e.type.members)
-    return Parts((first, value)) if e.type == forms.PAIR else Choice(first, ((0, (value,)), (1, (value,))))
-
-
 class Calls(Choices):
     def frame(self, path: str, given: Given, tail: bool, caller_keys: set[Key]) -> Frame:
         if len(self.frames) > 2000:
@@ -96,12 +90,11 @@ class Calls(Choices):
         if printed.result == VOID:
             leaf.code.append(Do(e))
             return UNIT
-        is_opened = printed.result in (forms.PAIR, forms.OPTION, forms.RESULT)
-        if printed.effect == CHANGES or is_opened:
+        if printed.effect == CHANGES or printed.result in (forms.PAIR, forms.OPTION, forms.RESULT):
             name = "" if s.place.steps else frame.name(s.place.local)
             self.prune(frame, s, leaf)
             e = self.variable_for(e, name or forms.local_name(printed.result.text), leaf, True)
-        return opened(e) if is_opened else e
+        return Parts(tuple(self.part(e, (at,)) for at in (0, 1))) if printed.result == forms.PAIR else e
 
     def arguments(self, value: Value, type: Type, leaf: Leaf) -> list[Expression]:
         if type.word == "Slice":
@@ -121,9 +114,6 @@ class Calls(Choices):
                 return a.args[0]
             return call("skh_pair_of", forms.PAIR, [a, b])
         if isinstance(value, Choice) and self.result in (forms.OPTION, forms.RESULT):
-            passed_on = value.tag.args[0] if value.tag.word == "member" else None
-            if passed_on is not None and passed_on.word == "variable" and value == opened(passed_on):
-                return passed_on
             tag = value_of(value.tag)
             if tag not in (0, 1):
                 raise Unknown(f"{self.path}: an enum that is returned, whose tag is {value.tag.word}")

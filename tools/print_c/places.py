@@ -102,6 +102,8 @@ class Places:
             elif isinstance(value, Parts):
                 value = value.parts[step]
             elif isinstance(value, Expression) and isinstance(value.type, Struct):
+                if rest:  # the field of a variant
+                    step, *rest = 1, *rest[1:]
                 value = member(value, *value.type.members[step], True)
             else:
                 raise Unknown(f"{self.path}: part {step} of {value}")
