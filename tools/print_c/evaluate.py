@@ -30,12 +30,12 @@ def operator_of(token: object) -> str:
 class Body(Calls):
     """The statements of one function of C."""
 
-    def evaluate(self, parameters: list[tuple[Value, list[Variable]]]) -> None:
+    def evaluate(self, values: list[Value], parameters: list[Variable]) -> None:
         while True:
             self.frames, self.code = [], []
             root = self.frame(self.path, self.given, True, set())
-            env = {(root.number, local): value for local, (value, _) in enumerate(parameters, 1)}
-            leaf = Leaf(env, self.code, {own.name: own for _, each in parameters for own in each})
+            env = {(root.number, local): value for local, value in enumerate(values, 1)}
+            leaf = Leaf(env, self.code, {own.name: own for own in parameters})
             leaf.owned = {key: value for key, value in env.items() if root.sets.get(key[1])}
             try:
                 self.run(root, root.function.body, leaf, True)

@@ -15,21 +15,17 @@ STRUCTS = {
     "sketch_hash::hash::murmurhash::MurmurHash3X64128": "struct skh_murmur3_hasher",
     "sketch_hash::hash::murmurhash::state::MurmurState": "sketch_murmur3_x64_128_state_t",
 }
-# The part of the text that a module's functions are in, the beginning of their names, and its title.
-PARTS = (
-    ("sketch_hash::hash::words", "skh_", "Words"),
-    ("sketch_hash::hash::copy", "skh_", "Copies of a few bytes"),
-    ("sketch_hash::hash::columns::XxHash64", "skh_xxh64_", "XXH64"),
-    ("sketch_hash::hash::columns::Murmur", "skh_murmur3_", "MurmurHash3 x64 128"),
-    ("sketch_hash::hash::columns", "skh_", "Offsets of columns"),
-    ("sketch_hash::hash::xxhash", "skh_xxh64_", "XXH64"),
-    ("sketch_hash::hash::murmurhash", "skh_murmur3_", "MurmurHash3 x64 128"),
-    ("sketch_hash::hash::seed", "skh_", "Seed hashes"),
-    ("sketch_bloom", "skh_bloom_", "Bloom filter"),
-    ("sketch_c", "skh_", "Results of calls"),
-)
-TITLES = ("Words", "Copies of a few bytes", "Offsets of columns", "XXH64", "MurmurHash3 x64 128", "Seed hashes", "Bloom filter",
-          "Results of calls", "Calls")
+# The parts of the text in their order: of each the beginning of its names, and the paths of its functions.
+PARTS = {
+    "Words": ("skh_", "sketch_hash::hash::words"),
+    "Copies of a few bytes": ("skh_", "sketch_hash::hash::copy"),
+    "Offsets of columns": ("skh_", "sketch_hash::hash::columns::(?!XxHash64|Murmur)"),
+    "XXH64": ("skh_xxh64_", "sketch_hash::hash::(xxhash|columns::XxHash64)"),
+    "MurmurHash3 x64 128": ("skh_murmur3_", "sketch_hash::hash::(murmurhash|columns::Murmur)"),
+    "Seed hashes": ("skh_", "sketch_hash::hash::seed"),
+    "Bloom filter": ("skh_bloom_", "sketch_bloom"),
+    "Results of calls": ("skh_", "sketch_c"),
+}
 # C allows no offset from NULL. Only these calls compute one from a pointer of no bytes, and take another pointer for it.
 OFFSET_OF_NOTHING = re.compile(r"sketch_murmur3_x64_128$|sketch_\w+_each(32|64)$")
 # The names of constant arrays.
@@ -48,8 +44,8 @@ class NoForm(Unknown):
 
 
 def part_of(path: str) -> tuple[str, str]:
-    for start, prefix, title in PARTS:
-        if path.startswith(start):
+    for title, (prefix, paths) in PARTS.items():
+        if re.match(paths, path):
             return prefix, title
     raise Unknown(f"the part of the text for {path}")
 

@@ -10,25 +10,20 @@ from evaluate import Body
 from expression import (BOOL, CHANGES, INT, NONE, NUMBERS, READS, SIZE, VOID, CType, Expression, Pointer, Struct, Variable,
                         call, convert, variable)
 from mir import BOOL as FLAG
-from mir import BYTE, Crates, Given, Statement, Type, Unknown
+from mir import BYTE, Crates, Given, Type, Unknown
 from source import Sources
 from statement import (Comment, Declare, Do, Give, Node, When, While, all_nodes, expressions_of, inline_once, lists_of,
                        must_be_declared, reads_of, tidy, without_unread)
-from values import Parts, Value
+from values import Parts
 from write import Writer, comment
 
 CRATES = ("sketch_base", "sketch_hash", "datasketches", "sketch_bloom", "sketch_c")
-# What is evaluated where it is called, since in C it is one operator.
-WRITTEN_OUT = re.compile(r"^core::|::fn::|\+Fn|^sketch_hash::hash::(words::read_|value::|columns::U\d+Offset)"
-                         r"|^sketch_hash::hash::murmurhash::block_word|^sketch_bloom::folds::word$")
-# Functions of one name that belong to different types.
-OWNERS = {"MurmurState": "state_", "XxHash64State": "state_"}
-SELF = {"MurmurState": "state", "XxHash64State": "state", "ScalarLanes": "lanes", "MurmurHash3X64128": "hasher",
-        "MurmurHash3X64128Hasher": "hasher", "XxHash64": "hasher"}
+# What is evaluated where it is called, since in C it is one operator or call.
+WRITTEN_OUT = re.compile(r"^core::|::fn::|\+Fn|^sketch_hash::hash::(words::(read_|rotate|split_pieces)|copy::copy_array|value::"
+                         r"|columns::U\d+Offset|murmurhash::block_word)|^sketch_bloom::folds::word$")
 STORAGE = {"always": "SKH_INLINE", "never": "static SKH_NOINLINE", "": "static"}
 HEADER_TYPES = {own.text: own for own in (INT, SIZE, VOID, NUMBERS[16], NUMBERS[32], NUMBERS[64])}
 DECLARATION = re.compile(r"/\*\*((?:(?!\*/).)*)\*/\nSKETCH_HASH_API ([^;(]+?) ?\b(sketch_\w+)\(([^;]*)\);", re.S)
-Parameters = list[tuple[Value, list[Variable]]]  # of each what it is at the beginning, and its variables in C
 
 
 @dataclass(eq=False)
@@ -97,32 +92,27 @@ class Library:
             self.done[path, given] = self.make(path, given)
         return self.done[path, given]
 
-    def calls_own(self, statements: list[Statement]) -> bool:
-        """Whether functions are called that are not the standard library's."""
-        return any(s.word == "Call" and isinstance(s.of[0], str) and not s.of[0].startswith("core::")
-                   or any(map(self.calls_own, s.bodies)) for s in statements)
-
-    def make(self, path: str, given: Given) -> Printed | None:
-        function = self.crates.function(path)
-        numbers = [own.args[0] for own in given.types if own.word == "Const"]
-        if WRITTEN_OUT.search(path) or numbers and not self.calls_own(function.body):
+    def make(self, path: str, args: Given) -> Printed | None:
+        if WRITTEN_OUT.search(path):
             return None
-        types, source = list(map(given.type, function.parameters)), self.sources.of(path)
+        function = self.crates.function(path)
+        numbers = [own.args[0] for own in args.types if own.word == "Const"]
+        types, source = list(map(args.type, function.parameters)), self.sources.of(path)
         if len(source.parameters) != len(types):
             raise Unknown(f"{path}: {len(types)} parameters, and {len(source.parameters)} in its text")
-        *_, owner, last = path.split("::")
         try:
-            names = [SELF[owner] if name == "self" else name for name in source.parameters]
-            values = list(map(self.parameter, types, names))
-            result = forms.result_of(given.type(function.locals[0]), self.struct)
+            given = list(map(self.parameter, types, source.parameters))
+            result = forms.result_of(args.type(function.locals[0]), self.struct)
         except forms.NoForm:
             return None
         prefix, title = forms.part_of(path)
-        widths = [own.bits for own in given.types if own.bits]
-        name = prefix + OWNERS.get(owner, "") + last + "".join(f"_{n}" for n in numbers) + "".join(map(str, widths))
+        widths = [own.bits for own in args.types if own.bits]
+        of_state = "state_" * (path.split("::")[-2].endswith("State"))  # a hasher has a function of this name too
+        last = path.split("::")[-1]
+        name = prefix + of_state + last + "".join(f"_{n}" for n in numbers) + "".join(map(str, widths))
         if name in self.by_name:
             raise Unknown(f"{path}: a second function {name}")
-        parameters = [own for _, each in values for own in each]
+        parameters = sum(given, [])
         pointers = [own.type for own in parameters if isinstance(own.type, Pointer)]
         effect = CHANGES if any(not own.is_const for own in pointers) else READS if pointers else NONE
         about = source.about
@@ -130,54 +120,46 @@ class Library:
             about = [re.sub(r"\bK\b", str(n), own.replace("2 K", str(2 * n))) for own in about]
         requires = source.requires if source.inline == "never" else ""
         printed = Printed(name, title, types, parameters, result, effect, about, STORAGE[source.inline], last, requires)
-        return self.finish(printed, Body(self, path, given, result), values)
+        return self.finish(printed, Body(self, path, args, result), [list(map(variable, each)) for each in given])
 
-    def parameter(self, type: Type, name: str) -> tuple[Value, list[Variable]]:
+    def parameter(self, type: Type, name: str) -> list[Variable]:
         if type.word == "Slice":
-            own = [Variable(name, forms.pointer_to(type.of, not type.is_mut, True, self.struct)),
-                   Variable(name + ("_length" if type.of == BYTE else "_count"), NUMBERS[64])]
-            return Parts(tuple(map(variable, own))), own
+            return [Variable(name, forms.pointer_to(type.of, not type.is_mut, True, self.struct)),
+                    Variable(name + ("_length" if type.of == BYTE else "_count"), NUMBERS[64])]
         if type.word == "Ref":
             form: CType = forms.pointer_to(type.of, not type.is_mut, False, self.struct)
         else:
             form = NUMBERS[type.bits] if type.bits else BOOL if type == FLAG else self.struct(type)
-        one = Variable(name, form)
-        return variable(one), [one]
+        return [Variable(forms.local_name(form.text) if name == "self" else name, form)]
 
     def entry(self, path: str) -> Printed:
         """A call of the header, which gives it its parameters."""
         function, name = self.crates.function(path), path.split("::")[-1]
         declared = self.declared[name]
-        names, values = iter(declared.names), []
-        for type in function.parameters:
-            text, own = next(names)
-            if type.word == "Slice":
-                pointer = forms.pointer_to(type.of, not type.is_mut, True, self.struct)
-                given = [Variable(own, CType("void *") if "void" in text else pointer), Variable(next(names)[1], SIZE)]
-                first, count = map(variable, given)
-                if pointer.size == 1 and not type.is_mut and own in ("input", "keys") and forms.OFFSET_OF_NOTHING.match(name):
-                    first = call("skh_slice", pointer, [first])
-                elif "void" in text:
-                    first = Expression("cast", pointer, (first,))
-                values.append((Parts((first, convert(count, 64))), given))
-                continue
-            value, given = self.parameter(type, own)
-            if "size_t" in text and type.word == "Ref":
-                given[0].type = Pointer("size_t", 0, 8, not type.is_mut)
-            elif "size_t" in text:
-                given[0].type = SIZE
-            value = variable(given[0])
-            values.append((value if type.word == "Ref" else convert(value, value.type.bits), given))
+        names, given = iter(declared.names), [self.parameter(type, "") for type in function.parameters]
+        values = [[self.of_caller(own, *next(names), name) for own in each] for each in given]
         if more := list(names):
             raise Unknown(f"{name}: more parameters in the header: {more}")
-        parameters = [own for _, each in values for own in each]
-        printed = Printed(name, "Calls", function.parameters, parameters, declared.result, CHANGES, [declared.about],
+        printed = Printed(name, "Calls", function.parameters, sum(given, []), declared.result, CHANGES, [declared.about],
                           "SKETCH_HASH_API", head=declared.parameters)
         return self.finish(printed, Body(self, path, Given(), declared.result), values)
 
-    def finish(self, printed: Printed, body: Body, values: Parameters) -> Printed:
+    @staticmethod
+    def of_caller(own: Variable, text: str, name: str, entry: str) -> Expression:
+        """What the source has of a parameter. The header has its name, and `text` before it."""
+        form, own.name = own.type, name
+        if "void" in text:
+            own.type = CType("void *")
+            if name in ("input", "keys") and forms.OFFSET_OF_NOTHING.match(entry):
+                return call("skh_slice", form, [variable(own)])
+            return Expression("cast", form, (variable(own),))
+        if "size_t" in text:
+            own.type = Pointer("size_t", 0, 8, form.is_const) if isinstance(form, Pointer) else SIZE
+        return variable(own) if isinstance(form, Pointer) else convert(variable(own), form.bits)
+
+    def finish(self, printed: Printed, body: Body, values: list[list[Expression]]) -> Printed:
         self.by_name[printed.name] = printed
-        body.evaluate(values)
+        body.evaluate([Parts(tuple(own)) if len(own) > 1 else own[0] for own in values], printed.parameters)
         printed.body = tidy(inline_once(without_unread(body.code)))
         must_be_declared(printed.body, [*printed.parameters, *self.arrays.values()])
         reads = reads_of(printed.body)
@@ -211,7 +193,7 @@ class Library:
         constants = {value: f"SKH_{name}" for name, value in self.sources.constants.items()}
         writer, ordered = Writer(constants, self.with_vectors), list(self.in_order(entries, set()))
         out = [head, *structs(ordered)]
-        for title in forms.TITLES:
+        for title in (*forms.PARTS, "Calls"):
             texts = [self.function_text(own, writer) for own in ordered if own.title == title]
             lines = {name: f"#define {name} 0x{value:x}u" for value, name in constants.items()}
             lines |= {own.name: f"static const unsigned char {own.name}[] = {{{', '.join(map(str, values))}}};"
