@@ -114,13 +114,10 @@ class Calls(Choices):
                 return a.args[0]
             return call("skh_pair_of", forms.PAIR, [a, b])
         if isinstance(value, Choice) and self.result in (forms.OPTION, forms.RESULT):
-            tag = value_of(value.tag)
-            if tag not in (0, 1):
-                raise Unknown(f"{self.path}: an enum that is returned, whose tag is {value.tag.word}")
-            fields = [own for own in dict(value.fields)[tag] if isinstance(own, Expression)]
+            fields = [own for own in value.fields if isinstance(own, Expression)]
             if self.result == forms.OPTION:
-                return call("skh_some" if tag else "skh_none", forms.OPTION, fields)
-            return call("skh_error" if tag else "skh_ok", forms.RESULT, fields or [number(0, 64)])
+                return call("skh_some" if value.variant else "skh_none", forms.OPTION, fields)
+            return call("skh_error" if value.variant else "skh_ok", forms.RESULT, fields or [number(0, 64)])
         if isinstance(self.result, Struct) and isinstance(value, Parts):
             own = Variable(forms.local_name(self.result.text), self.result)
             self.declare_struct(own, value, leaf)

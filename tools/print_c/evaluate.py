@@ -86,7 +86,7 @@ class Body(Calls):
             if type.word == "Named" and self.crates.shape(type)[0] == "Variants":
                 if value_of(values[0]) is None:
                     raise Unknown(f"{self.path}: an enum with an unknown tag")
-                return Choice(values[0], ((values[0].args[0], tuple(values[1:])),))
+                return Choice(values[0].args[0], tuple(values[1:]))
             return Parts(tuple(values))
         if s.word == "Repeat":
             return Parts(tuple(values) * number_of(frame.given.type(s.of)))

@@ -94,11 +94,9 @@ class Places:
         while path and not isinstance(value, Undefined):
             step, *rest = path
             if isinstance(value, Choice) and not rest:
-                value = value.tag
+                value = number(value.variant, 8)
             elif isinstance(value, Choice):
-                fields = dict(value.fields).get(step)
-                index, *rest = rest
-                value = Undefined() if fields is None else fields[index - 1]
+                value, rest = value.fields[rest[0] - 1] if step == value.variant else Undefined(), rest[1:]
             elif isinstance(value, Parts):
                 value = value.parts[step]
             elif isinstance(value, Expression) and isinstance(value.type, Struct):

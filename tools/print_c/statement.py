@@ -170,12 +170,9 @@ def inline_once(nodes: list[Node]) -> list[Node]:
     reads = reads_of(nodes)
 
     def may_be_in(node: Declare, following: Node | None) -> bool:
-        own = variable(node.variable)
-        if following is None or isinstance(following, While) or not isinstance(node.value, Expression):
-            return False
-        if not node.variable.is_temporary or node.variable.is_set or reads.get(node.variable, 0) != 1:
-            return False
-        return any(own in e.parts() for e in expressions_of(following))
+        own = node.variable
+        is_read_once = own.is_temporary and not own.is_set and reads.get(own, 0) == 1
+        return is_read_once and following is not None and any(variable(own) in e.parts() for e in expressions_of(following))
 
     def walk(inner: list[Node]) -> list[Node]:
         out: list[Node] = []

@@ -21,10 +21,10 @@ class Parts:
 
 @dataclass(frozen=True)
 class Choice:
-    """An enum: its tag, and the fields of each variant that it may be."""
+    """An enum of a variant that is known, and the fields of it."""
 
-    tag: Expression
-    fields: tuple[tuple[int, tuple[Value, ...]], ...]
+    variant: int
+    fields: tuple[Value, ...]
 
 
 @dataclass(frozen=True)
@@ -73,8 +73,7 @@ def changed(value: Value, change: Callable[[Expression], Expression]) -> Value:
     if isinstance(value, Parts):
         return Parts(tuple(changed(part, change) for part in value.parts))
     if isinstance(value, Choice):
-        fields = tuple((at, tuple(changed(part, change) for part in each)) for at, each in value.fields)
-        return Choice(change(value.tag), fields)
+        return Choice(value.variant, tuple(changed(part, change) for part in value.fields))
     if isinstance(value, Bytes):
         return Bytes(change(value.pointer), value.count)
     return Spelled(change(value.number)) if isinstance(value, Spelled) else value
