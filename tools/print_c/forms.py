@@ -5,7 +5,7 @@ import re
 from typing import Callable
 
 from expression import BOOL, NUMBERS, VOID, CType, Expression, Pointer, Struct, at, call, convert, number, value_of
-from mir import BYTE, UNIT, WORD, Crates, Type, Unknown
+from mir import BYTE, UNIT, WORD, Type, Unknown
 from mir import BOOL as FLAG
 
 # Structs of the source that are structs of C. A function with any other in its signature is written out where it is called.
@@ -48,17 +48,6 @@ def part_of(path: str) -> tuple[str, str]:
         if re.match(paths, path):
             return prefix, title
     raise Unknown(f"the part of the text for {path}")
-
-
-def struct_of(type: Type, crates: Crates, members: dict[str, list[str]]) -> Struct:
-    if type.name not in STRUCTS:
-        raise NoForm(type)
-    forms: list[tuple[str, CType | int]] = []
-    for name, own in zip(members[type.name], crates.shape(type)[1], strict=True):
-        if own != WORD and (own.word, own.args[:1]) != ("Array", (BYTE,)):
-            raise Unknown(f"a member of {type.name}: {own}")
-        forms.append((name, NUMBERS[64] if own == WORD else own.count))
-    return Struct(STRUCTS[type.name], 0, tuple(forms))
 
 
 def pointer_to(type: Type, is_const: bool, is_slice: bool, struct: Callable[[Type], Struct]) -> Pointer:

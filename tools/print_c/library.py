@@ -3,6 +3,7 @@ from __future__ import annotations
 
 import re
 from dataclasses import dataclass, field
+from functools import cache
 from typing import Iterable
 
 import forms
@@ -10,7 +11,7 @@ from evaluate import Body
 from expression import (BOOL, CHANGES, INT, NONE, NUMBERS, READS, SIZE, VOID, CType, Expression, Pointer, Struct, Variable,
                         call, convert, variable)
 from mir import BOOL as FLAG
-from mir import BYTE, Crates, Given, Type, Unknown
+from mir import BYTE, WORD, Crates, Given, Type, Unknown
 from source import Sources
 from statement import (Comment, Declare, Do, Give, Node, When, While, all_nodes, expressions_of, inline_once, lists_of,
                        must_be_declared, reads_of, tidy, without_unread)
@@ -69,14 +70,20 @@ def read_header(text: str) -> dict[str, Declared]:
 class Library:
     def __init__(self, crates: Crates, header: str, sources: Sources):
         self.crates, self.sources, self.declared = crates, sources, read_header(header)
-        self.done: dict[tuple[str, Given], Printed | None] = {}
         self.by_name: dict[str, Printed] = {}
         self.arrays: dict[tuple[int, ...], Variable] = {}
         self.with_vectors: set[str] = set()  # functions that are told whether there are vectors,
         self.chosen: set[str] = set()  # and those that find out, and call one that is told
 
     def struct(self, type: Type) -> Struct:
-        return forms.struct_of(type, self.crates, self.sources.members)
+        if type.name not in forms.STRUCTS:
+            raise forms.NoForm(type)
+        members: list[tuple[str, CType | int]] = []
+        for name, own in zip(self.sources.members[type.name], self.crates.shape(type)[1], strict=True):
+            if own != WORD and (own.word, own.args[:1]) != ("Array", (BYTE,)):
+                raise Unknown(f"a member of {type.name}: {own}")
+            members.append((name, NUMBERS[64] if own == WORD else own.count))
+        return Struct(forms.STRUCTS[type.name], 0, tuple(members))
 
     def constant(self, type: Type, values: tuple[int, ...]) -> Expression:
         if type.word != "Array" or type.of != BYTE or values not in forms.ARRAYS:
@@ -86,13 +93,9 @@ class Library:
 
     # ---- Functions
 
-    def printed(self, path: str, given: Given) -> Printed | None:
+    @cache
+    def printed(self, path: str, args: Given) -> Printed | None:
         """The function of C for an instance, or None if it is written out where it is called."""
-        if (path, given) not in self.done:
-            self.done[path, given] = self.make(path, given)
-        return self.done[path, given]
-
-    def make(self, path: str, args: Given) -> Printed | None:
         if WRITTEN_OUT.search(path):
             return None
         function = self.crates.function(path)
@@ -114,7 +117,7 @@ class Library:
             raise Unknown(f"{path}: a second function {name}")
         parameters = sum(given, [])
         pointers = [own.type for own in parameters if isinstance(own.type, Pointer)]
-        effect = CHANGES if any(not own.is_const for own in pointers) else READS if pointers else NONE
+        effect = max((READS if own.is_const else CHANGES for own in pointers), default=NONE)
         about = source.about
         for n in numbers:  # K is its number in this instance
             about = [re.sub(r"\bK\b", str(n), own.replace("2 K", str(2 * n))) for own in about]

@@ -7,6 +7,7 @@ from __future__ import annotations
 import json
 import pathlib
 from dataclasses import dataclass, field
+from functools import cache
 from typing import Any, Iterator, NamedTuple
 
 
@@ -284,7 +285,6 @@ class Crates:
 
     def __init__(self, functions: list[tuple[str, Any]]):
         self.tokens = dict(functions)
-        self.read: dict[str, Function] = {}
         self.shapes: dict[str, Any] = {}
         self.methods: dict[tuple[str, int], str] = {}
         for path, token in functions:
@@ -293,12 +293,11 @@ class Crates:
                 self.methods[tuple(of["Impl"])] = path
             self.shapes |= {own["name"]: own["shape"] for own in token["types"]}
 
+    @cache
     def function(self, path: str) -> Function:
         if path not in self.tokens:
             raise Unknown(f"function {path}, which no crate has")
-        if path not in self.read:
-            self.read[path] = read_function(path, self.tokens[path])
-        return self.read[path]
+        return read_function(path, self.tokens[path])
 
     def resolve(self, call: Statement, given: Given) -> tuple[str, Given]:
         """The path of what is called inside of an instance, and its arguments."""

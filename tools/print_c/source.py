@@ -98,10 +98,7 @@ def read_function(lines: list[str], at: int, start: int, end: int) -> Source:
     own.requires = "\n".join(re.findall(r"requires \w* ?(\{.*?\})$", signature, re.M))
     inside = SIGNATURE.search(re.sub(r"\n\s*", " ", signature).replace("( ", "(").replace(", )", ")"))
     for each in re.split(r", (?![^\[(<]*[\])>])", inside[1]) if inside and inside[1] else []:
-        name = each.split(":")[0]
-        own.parameters.append(name.replace("mut ", "").replace("&", "").strip())
-        if name.startswith("mut ") and ": &" in each:
-            own.bound.append(own.parameters[-1])
+        own.parameters.append(each.split(":")[0].replace("mut ", "").replace("&", "").strip())
     read_body(own, lines[start + 1:end])
     return own
 
