@@ -6,7 +6,7 @@ from frames import Frame
 from memory import Memory
 from mir import Statement, Unknown
 from statement import Break, Comment, Declare, Node, When, While, all_nodes
-from values import END, Key, Leaf, Parts, Path, Undefined, Value, common, differences, expression_of
+from values import END, Key, Leaf, Parts, Path, Undefined, Value, common, differences, expression_of, is_free
 
 Arm = tuple[list[int], list[Statement]]  # the values that lead to it, and what it does
 Merges = list[tuple[Variable, Key, list[Expression]]]  # a new variable, the local that it is for, and its value on each way
@@ -112,23 +112,20 @@ class Choices(Memory):
 
     def settle(self, frame: Frame, merges: Merges, going: list[Leaf], leaf: Leaf, code: list[Node]) -> None:
         """Gives variables the values that each leaf comes with. One that holds it already, and nothing else, is taken."""
-        waiting: list[dict[Variable, Expression]] = [{} for _ in going]
+        taken_by: dict[Variable, list[Expression]] = {}
         for place, key, values in merges:
             others = {used for e in leaf.expressions() if e != variable(place) for used in e.variables()}
-            taken = next((value.args[0] for value in values if value.word == "variable" and value.args[0] not in others
-                          and not value.args[0].is_in_memory and value.args[0].type == place.type), None)
+            taken = next((value.args[0] for value in values if is_free(value, others)), None)
             if taken is None:
                 taken = place
                 place.name = frame.name(key[1]) if key[0] == frame.number else ""
                 code.insert(len(code) - 1, Declare(place, None))
             taken.is_set = True
             leaf.change(lambda e: e.replaced(variable(place), variable(taken)))
-            for each, value in zip(waiting, values):
-                if value != variable(taken):
-                    each[taken] = value
-        for came, each in zip(going, waiting):
-            leaf.forget(lambda fact: bool(fact.variables() & set(each)))
-            self.set_all(each, came)
+            taken_by[taken] = values
+        leaf.forget(lambda fact: not fact.variables().isdisjoint(taken_by))
+        for i, came in enumerate(going):
+            self.set_all({own: values[i] for own, values in taken_by.items()}, came.at(came.code, {}))
 
     # ---- Loops
 
@@ -175,12 +172,10 @@ class Choices(Memory):
 
     def carry(self, frame: Frame, key: Key, path: Path, leaf: Leaf) -> Variable:
         """The variable that holds a value from turn to turn: the one that it is in, if nothing else is."""
-        value = expression_of(self.part(leaf.env[key], path))
-        if value.word == "variable" and not value.args[0].is_in_memory:
-            rest = leaf.at([])
-            rest.put(key, path, Undefined())
-            if value.args[0] not in rest.variables():
-                return value.args[0]
+        value, rest = expression_of(self.part(leaf.env[key], path)), leaf.at([])
+        rest.put(key, path, Undefined())
+        if is_free(value, rest.variables()):
+            return value.args[0]
         name = frame.name(key[1]) if key[0] == frame.number else ""
         return Variable(name or ("i" if value_of(value) == 0 else ""), value.type)
 
@@ -188,10 +183,8 @@ class Choices(Memory):
         """At the end of a turn the variables get their values for the next one."""
         here = {at: own for at, own in carried.items() if at[0] in leaf.env}
         waiting = {own: expression_of(self.part(leaf.env[key], path)) for (key, path), own in here.items()}
-        waiting = {own: e for own, e in waiting.items() if e != variable(own)}
         for key, path in here:
             leaf.put(key, path, Undefined())
-        self.make_way(set(waiting), leaf)
+        self.set_all(waiting, leaf)
         for (key, path), own in here.items():
             leaf.put(key, path, variable(own))
-        self.set_all(waiting, leaf)

@@ -8,8 +8,8 @@ from frames import Frame
 from mir import BYTE, Statement, Type, Unknown
 from places import Places, Where, member
 from statement import Declare, Do, Set
-from values import (Bytes, InMemory, Leaf, Parts, Spelled, ToLocal, Value, changed, expression_of, is_step, leaves, parts_of,
-                    put, weight)
+from values import (Bytes, InMemory, Leaf, Parts, Spelled, ToLocal, Value, changed, expression_of, is_free, is_step, leaves,
+                    parts_of, put, weight)
 
 
 class Again(Exception):
@@ -210,14 +210,12 @@ class Memory(Places):
         for before, e, name in zip(olds, values, names, strict=False):
             if before is not None:
                 own = before.args[0]
-                if e != before:
-                    waiting[own] = e
-            elif e.word == "variable" and not e.args[0].is_in_memory and e.args[0] not in leaf.variables():
-                own = e.args[0]  # nothing else holds it
+                waiting[own] = e
+            elif is_free(e, leaf.variables()):
+                own = e.args[0]
             else:
                 own = Variable(name, e.type)
                 leaf.code.append(Declare(own, e))
             out.append(variable(own))
-        self.make_way(set(waiting), leaf)
         self.set_all(waiting, leaf)
         return Parts(tuple(out)) if isinstance(value, Parts) else out[0]

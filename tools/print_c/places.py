@@ -136,8 +136,12 @@ class Places:
             leaf.pointers[pointer] = self.variable_for(pointer, name, leaf, True)
         return leaf.pointers[pointer]
 
-    def set_all(self, waiting: dict[Variable, Expression], leaf: Leaf) -> None:
-        """Sets variables, each before what it reads is changed."""
+    def set_all(self, values: dict[Variable, Expression], leaf: Leaf) -> None:
+        """Sets variables, each before what it reads is changed. What else still reads them becomes a variable before."""
+        waiting = {own: e for own, e in values.items() if e != variable(own)}
+        for e in dict.fromkeys(e for e in leaf.expressions() if not e.variables().isdisjoint(waiting)):
+            new = self.variable_for(e, "", leaf)
+            leaf.change(lambda own: own.replaced(e, new))
         while waiting:
             free = [own for own in waiting if not any(own in e.variables() for other, e in waiting.items() if other is not own)]
             if free:
@@ -146,12 +150,6 @@ class Places:
             own = next(iter(waiting))
             old = self.variable_for(variable(own), own.name, leaf)
             waiting = {other: e.replaced(variable(own), old) for other, e in waiting.items()}
-
-    def make_way(self, places: set[Variable], leaf: Leaf) -> None:
-        """Before variables are set, what still reads them becomes a variable."""
-        for e in dict.fromkeys(e for e in leaf.expressions() if e.variables() & places):
-            new = self.variable_for(e, "", leaf)
-            leaf.change(lambda own: own.replaced(e, new))
 
 
 def member(base: Expression, name: str, form: CType | int, is_const: bool) -> Value:

@@ -140,6 +140,11 @@ def is_step(e: Expression) -> bool:
     return is_one and e.args[0].word == "variable" and all(arg.word == "number" for arg in e.args[1:])
 
 
+def is_free(e: Expression, used: set[Variable]) -> bool:
+    """Whether it is a variable that may be set, since nothing else that is used has its value."""
+    return e.word == "variable" and not e.args[0].is_in_memory and e.args[0] not in used
+
+
 END, RETURN = "end", "return"
 
 
