@@ -76,7 +76,6 @@ class Calls(Choices):
                 raise Unknown(f"{path}: it ends without a return")
             own.target = END
             value = own.env.get(result, UNIT)
-            own.env = {key: each for key, each in own.env.items() if key[0] != inner.number}
             self.assign(frame, s, value, own)
         return out
 

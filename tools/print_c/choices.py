@@ -9,7 +9,7 @@ from statement import Break, Comment, Declare, Node, When, While, all_nodes
 from values import END, Key, Leaf, Parts, Path, Undefined, Value, common, differences, expression_of, is_free
 
 Arm = tuple[list[int], list[Statement]]  # the values that lead to it, and what it does
-Merges = list[tuple[Variable, Key, list[Expression]]]  # a new variable, the local that it is for, and its value on each way
+Merges = list[tuple[Variable, list[Expression]]]  # a new variable, and its value on each way
 
 
 class Choices(Memory):
@@ -23,10 +23,8 @@ class Choices(Memory):
             code, came = leaf.code, self.step(frame, s, leaf, only_returns)
             going = [own for own in came if own.target == END]
             out += [own for own in came if own.target != END]
-            for own in going:
-                self.prune(frame, s, own)
             if len(going) > 1 and i + 1 < len(statements):
-                one = None if len(going) < len(came) or only_returns else self.join(frame, going, code)
+                one = None if len(going) < len(came) or only_returns else self.join(going, code)
                 if one is None:
                     return out + [end for own in going for end in self.run(frame, statements[i + 1:], own, tail)]
                 going = [one]
@@ -71,7 +69,7 @@ class Choices(Memory):
 
     # ---- Ways that meet
 
-    def join(self, frame: Frame, going: list[Leaf], code: list[Node]) -> Leaf | None:
+    def join(self, going: list[Leaf], code: list[Node]) -> Leaf | None:
         """One leaf after all of these, or None if what they know is better kept apart."""
         first, merges, env = going[0], [], {}
         for key in set.intersection(*(set(own.env) for own in going)):
@@ -88,12 +86,11 @@ class Choices(Memory):
         leaf.facts = frozenset.intersection(*(own.facts for own in going))
         node = code[-1]
         if isinstance(node, When) and not node.yes and not node.no and len(going) == 2 and len(merges) == 1:
-            place, _, (yes, no) = merges[0]
+            place, (yes, no) = merges[0]
             if "?" not in (yes.word, no.word) and first.code is node.yes:
-                code.pop()
                 leaf.change(lambda e: e.replaced(variable(place), choose(node.condition, yes, no)))
                 return leaf
-        self.settle(frame, merges, going, leaf, code)
+        self.settle(merges, going, leaf, code)
         return leaf
 
     def merged(self, values: list[Value], merges: Merges, key: Key) -> Value | None:
@@ -103,22 +100,20 @@ class Choices(Memory):
         if all(isinstance(value, Expression) for value in values):
             if any(value.type != first.type for value in values):
                 raise Unknown(f"{self.path}: values of different types meet: {[value.type.text for value in values]}")
-            merges.append((Variable("", first.type), key, values))
+            merges.append((Variable(self.frames[key[0] - 1].name(key[1]), first.type), values))
             return variable(merges[-1][0])
         if all(isinstance(value, Parts) and len(value.parts) == len(first.parts) for value in values):
             parts = [self.merged([value.parts[i] for value in values], merges, key) for i in range(len(first.parts))]
             return None if None in parts else Parts(tuple(parts))
         return None
 
-    def settle(self, frame: Frame, merges: Merges, going: list[Leaf], leaf: Leaf, code: list[Node]) -> None:
+    def settle(self, merges: Merges, going: list[Leaf], leaf: Leaf, code: list[Node]) -> None:
         """Gives variables the values that each leaf comes with. One that holds it already, and nothing else, is taken."""
         taken_by: dict[Variable, list[Expression]] = {}
-        for place, key, values in merges:
-            others = {used for e in leaf.expressions() if e != variable(place) for used in e.variables()}
-            taken = next((value.args[0] for value in values if is_free(value, others)), None)
-            if taken is None:
-                taken = place
-                place.name = frame.name(key[1]) if key[0] == frame.number else ""
+        for place, values in merges:
+            used = leaf.variables()
+            taken = next((value.args[0] for value in values if is_free(value, used)), place)
+            if taken is place:
                 code.insert(len(code) - 1, Declare(place, None))
             taken.is_set = True
             leaf.change(lambda e: e.replaced(variable(place), variable(taken)))
@@ -144,7 +139,7 @@ class Choices(Memory):
             if found <= set(carried):
                 break
             for key, path in sorted(found - set(carried)):
-                carried[key, path] = self.carry(frame, key, path, leaf)
+                carried[key, path] = self.carry(key, path, leaf)
         for (key, path), own in carried.items():
             value = self.part(leaf.env[key], path)
             if value != variable(own):
@@ -158,7 +153,7 @@ class Choices(Memory):
             return []
         if len({own.target for own in exits}) > 1:
             raise Unknown(f"{self.path}: a loop that is left to several places")
-        after = self.join(frame, exits, body) if len(exits) > 1 else exits[0]
+        after = self.join(exits, body) if len(exits) > 1 else exits[0]
         if after is None:
             raise Unknown(f"{self.path}: a loop that is left with values of different kinds")
         for own in exits:
@@ -170,13 +165,13 @@ class Choices(Memory):
         after.facts, after.scope, after.pointers = frozenset(), leaf.scope, {}
         return [self.left(after)]
 
-    def carry(self, frame: Frame, key: Key, path: Path, leaf: Leaf) -> Variable:
+    def carry(self, key: Key, path: Path, leaf: Leaf) -> Variable:
         """The variable that holds a value from turn to turn: the one that it is in, if nothing else is."""
         value, rest = expression_of(self.part(leaf.env[key], path)), leaf.at([])
         rest.put(key, path, Undefined())
         if is_free(value, rest.variables()):
             return value.args[0]
-        name = frame.name(key[1]) if key[0] == frame.number else ""
+        name = self.frames[key[0] - 1].name(key[1])
         return Variable(name or ("i" if value_of(value) == 0 else ""), value.type)
 
     def turn(self, leaf: Leaf, carried: dict[tuple[Key, Path], Variable]) -> None:
