@@ -9,18 +9,16 @@ import re
 from dataclasses import dataclass, field
 from itertools import accumulate
 
-HEAD = re.compile(r"^( *)(?:pub(?:\([\w ]+\))? )?(?:final )?(?:const )?(?:unsafe )?(?:extern \"C\" )?fn (\w+)")
-IMPL = re.compile(r"^impl(?:<[^>]*>)? (?:(\w+)(?:<.*>)? for )?(&?\[?\w+\]?)|^pub trait (\w+)")
+HEAD = re.compile(r"^( *)(?:[\w()\" ]+ )?fn (\w+)")
+IMPL = re.compile(r"^(?:impl(?:<[^>]*>)?|pub trait) (?:(\w+)(?:<.*>)? for )?(\w+)")
 BINDING = re.compile(
-    r"\blet (?:mut )?(?P<let>(?:\w+)?(?:[(\[].*?[)\]])?)(?:: [^=;]+)? = (?!=)"
+    r"\blet (?:mut )?(?P<let>(?:\w+)?(?:[(\[].*?[)\]])?)(?:: [^=;]+)? = "
     r"|\bfor (?P<each>\w+) in (?P<over>[^\n]*?) \{"
-    r"|(?P<arms>(?:^|(?<=\{)|(?<=,))\s*[\w:]+\((?:\w+|\(\)|_)\)(?: \| [\w:]+\(\w+\))*) =>"
-    r"|(?P<set>^\s*\((?:self\.)?\w+(?:, (?:self\.)?\w+)+\)) = "
+    r"|(?P<arms>[\w:]+\((?:\w+|\(\))\)) =>"
     r"|(?P<try>\?)(?=[;.)])", re.M)
 CALL = re.compile(r"\b([a-z]\w*)(?:::<[^>]*>)?\(")
-CLOSURE = re.compile(r"\|[^|\n]*\| (?:\{.*?\n\s*\}|[^\n]*)", re.S)
 STATEMENT_END = re.compile(r"[;{]\n|\n\n|\Z")
-SIGNATURE = re.compile(r"\bfn \w+(?:<.*?>)?\((.*?)\)(?: -> | requires | ensures | \{|;)")
+SIGNATURE = re.compile(r"\bfn \w+(?:<.*?>)?\((.*?)\)[ ;]")
 MEMBER = re.compile(r"^ +(?:pub(?:\(\w+\))? )?(\w+):", re.M)
 
 
@@ -58,20 +56,14 @@ def bindings(text: str) -> list[tuple[int, list[str | None]]]:
     for match in BINDING.finditer(text):
         if match["each"]:
             names = [None] * (".." not in match["over"]) + [match["each"]]
-        elif match["set"]:
-            names = [None] * (match["set"].count(",") + 1)
         else:
             names = [None, None] if match["try"] else names_in(match["let"] or match["arms"])
         out.append((match.start(), names))
     return out
 
 
-def blank(found: re.Match[str]) -> str:
-    return re.sub(r"[^\n]", " ", found[0])
-
-
 def read_body(own: Source, body: list[str]) -> None:
-    code = CLOSURE.sub(blank, "\n".join(re.sub(r"//.*", blank, line) for line in body))
+    code = "\n".join(re.sub(r"//.*", lambda found: " " * len(found[0]), line) for line in body)
     bound = bindings(code)
     starts = list(accumulate((len(line) + 1 for line in body), initial=0))
     is_comment = [line.lstrip().startswith("//") for line in body] + [False]
@@ -127,12 +119,12 @@ class Sources:
         while at < len(lines):
             impl, head, start = IMPL.match(lines[at]), HEAD.match(lines[at]), at
             if impl or lines[at] == "}":
-                owner = "" if not impl else f"{impl[3] or type_name(impl[2])}{impl[1] or ''}::"
+                owner = f"{impl[2]}{impl[1] or ''}::" if impl else ""
             if head:
                 while lines[start] != head[1] + "{" and not lines[start].endswith((" {", ";", "{}")):
                     start += 1
                 end = lines.index(head[1] + "}", start) if lines[start].endswith("{") else start
-                self.functions[f"{module}::{owner if head[1] else ''}{head[2]}"] = read_function(lines, at, start, end)
+                self.functions[f"{module}::{owner}{head[2]}"] = read_function(lines, at, start, end)
                 at = end
             at += 1
 
@@ -148,7 +140,3 @@ class Sources:
         of_trait = (about for trait, about in traits.items() if trait != owner and owner.endswith(trait))
         own.about = own.about or next(of_trait, [])
         return own
-
-
-def type_name(text: str) -> str:
-    return text if text[0].isupper() else text.upper() if len(text) < 4 else text
