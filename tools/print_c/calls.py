@@ -8,7 +8,7 @@ import liveness
 from choices import Choices
 from expression import CHANGES, VOID, Expression, Struct, Variable, call, number, value_of, variable
 from frames import Frame
-from mir import Given, Place, Statement, Type, Unknown
+from mir import Given, Place, Statement, Unknown
 from statement import Do, Give
 from values import (END, RETURN, UNIT, Bytes, Choice, InMemory, Key, Leaf, Parts, Spelled, ToLocal, Value, expression_of,
                     parts_of)
@@ -81,7 +81,8 @@ class Calls(Choices):
 
     def call_printed(self, frame: Frame, s: Statement, printed: Printed, args: list[Value], leaf: Leaf) -> Value:
         """A call of a function of C. One that changes memory is a statement."""
-        flat = [own for arg, type in zip(args, printed.types, strict=True) for own in self.arguments(arg, type, leaf)]
+        parts = [parts_of(arg) if type.word == "Slice" else (arg,) for arg, type in zip(args, printed.types, strict=True)]
+        flat = [self.pointer(own, leaf) for each in parts for own in each]
         flat = [own for own, is_used in zip(flat, printed.is_used, strict=True) if is_used]
         e = call(printed.name, printed.result, flat, printed.effect)
         if printed.effect == CHANGES:
@@ -94,12 +95,6 @@ class Calls(Choices):
             self.prune(frame, s, leaf)
             e = self.variable_for(e, name or forms.local_name(printed.result.text), leaf, True)
         return Parts(tuple(self.part(e, (at,)) for at in (0, 1))) if printed.result == forms.PAIR else e
-
-    def arguments(self, value: Value, type: Type, leaf: Leaf) -> list[Expression]:
-        if type.word == "Slice":
-            pointer, count = parts_of(value)
-            return [self.pointer(pointer, leaf), expression_of(count)]
-        return [self.pointer(value, leaf) if type.word == "Ref" else expression_of(value)]
 
     # ---- Results
 

@@ -35,8 +35,7 @@ class Body(Calls):
             self.frames, self.code = [], []
             root = self.frame(self.path, self.given, True, set())
             env = {(root.number, local): value for local, value in enumerate(values, 1)}
-            leaf = Leaf(env, self.code, {own.name: own for own in parameters})
-            leaf.owned = {key: value for key, value in env.items() if root.sets.get(key[1])}
+            leaf = Leaf(env, self.code, {own.name: own for own in parameters}, owned=dict(env))
             try:
                 self.run(root, root.function.body, leaf, True)
                 return

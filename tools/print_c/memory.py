@@ -77,9 +77,8 @@ class Memory(Places):
         places = [at(pointer, number(4 * i, 64)) for i in range(len(words))]
         if any(part.args[0] != place for e, place in zip(words, places) for part in e.parts() if part.word == "load"):
             words = tuple(self.variable_for(e, "word", leaf) for e in words)
-        self.keep(leaf)
         for place, word in zip(places, words):
-            leaf.code.append(Do(call("skh_store32", VOID, [place, word], CHANGES)))
+            self.do("skh_store32", [place, word], leaf)
 
     def store_bytes(self, pointer: Expression, value: Value, count: int, leaf: Leaf) -> None:
         if pointer.type.size != 1:
@@ -91,13 +90,12 @@ class Memory(Places):
         elif isinstance(value, Parts) and all(value_of(part) == 0 for part in value.parts):
             self.do("memset", [pointer, number(0, 32), number(count, 64)], leaf)
         elif isinstance(value, Spelled) and 8 * count == value.number.type.bits and count in (8, 16):
-            self.keep(leaf)
             words = [value.number]
             if count == 16:
                 whole = words[0] if weight(words[0]) == 0 else self.variable_for(words[0], "number", leaf)
                 words = [convert(whole, 64), convert(operation(">>", whole, number(64, 128)), 64)]
             for i, each in enumerate(words):
-                leaf.code.append(Do(call("skh_store64", VOID, [at(pointer, number(8 * i, 64)), each], CHANGES)))
+                self.do("skh_store64", [at(pointer, number(8 * i, 64)), each], leaf)
         else:
             raise Unknown(f"{self.path}: a write of {count} bytes")
 

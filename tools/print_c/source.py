@@ -129,14 +129,10 @@ class Sources:
             at += 1
 
     def of(self, path: str) -> Source:
-        """A method may stand in another file than its type. One of a trait says what the trait does."""
+        """A method may stand in another file than its type."""
         crate, (owner, name) = path.split("::")[0], path.split("::")[-2:]
         if path not in self.functions:
             found = [own for other, own in self.functions.items()
                      if other.startswith(crate) and other.endswith(f"::{owner}::{name}")]
             return found[0] if len(found) == 1 else Source()
-        own = self.functions[path]
-        traits = {other.split("::")[-2]: each.about for other, each in self.functions.items() if other.endswith(f"::{name}")}
-        of_trait = (about for trait, about in traits.items() if trait != owner and owner.endswith(trait))
-        own.about = own.about or next(of_trait, [])
-        return own
+        return self.functions[path]

@@ -176,8 +176,7 @@ def inline_once(nodes: list[Node]) -> list[Node]:
 
     def walk(inner: list[Node]) -> list[Node]:
         out: list[Node] = []
-        for i, node in enumerate(inner):
-            following = next((own for own in inner[i + 1:] if not isinstance(own, Comment)), None)
+        for node, following in zip(inner, [*inner[1:], None]):
             if isinstance(node, Declare) and may_be_in(node, following):
                 change(following, lambda e: e.replaced(variable(node.variable), node.value))
                 continue
