@@ -141,59 +141,51 @@ def must_be_declared(nodes: list[Node], known: Iterable[Variable]) -> None:
             seen.add(node.variable)
 
 
+def rewritten(nodes: list[Node], rule: Callable[[Node, Node | None], list[Node]]) -> list[Node]:
+    """With what a rule makes of each statement and the next one, from the inside out."""
+    out: list[Node] = []
+    for node, following in zip(nodes, [*nodes[1:], None]):
+        for each in lists_of(node):
+            each[:] = rewritten(each, rule)
+        out += rule(node, following)
+    return out
+
+
 def without_unread(nodes: list[Node]) -> list[Node]:
     """Without variables that nobody reads, and conditions on which nothing depends. A call that has an effect is kept."""
-    while True:
-        reads, count = reads_of(nodes), size(nodes)
+    reads, count = reads_of(nodes), size(nodes)
 
-        def keep(inner: list[Node]) -> list[Node]:
-            out: list[Node] = []
-            for node in inner:
-                own = node.variable if isinstance(node, Declare) else \
-                    node.place.args[0] if isinstance(node, Set) and node.place.word == "variable" else None
-                if own is not None and own not in reads and not own.is_in_memory:
-                    out += [Do(e) for e in expressions_of(node) if e.effect() == CHANGES]
-                    continue
-                for each in lists_of(node):
-                    each[:] = keep(each)
-                if not isinstance(node, When) or node.yes or node.no:
-                    out.append(node)
-            return out
+    def read_or_done(node: Node, _: Node | None) -> list[Node]:
+        own = node.variable if isinstance(node, Declare) else \
+            node.place.args[0] if isinstance(node, Set) and node.place.word == "variable" else None
+        if own is not None and own not in reads and not own.is_in_memory:
+            return [Do(e) for e in expressions_of(node) if e.effect() == CHANGES]
+        return [node] if not isinstance(node, When) or node.yes or node.no else []
 
-        nodes = keep(nodes)
-        if size(nodes) == count:
-            return nodes
+    out = rewritten(nodes, read_or_done)
+    return out if size(out) == count else without_unread(out)
 
 
 def inline_once(nodes: list[Node]) -> list[Node]:
-    """A value without a name that only the next statement reads, once, is written there."""
+    """A value without a name that only the next statement reads, once, is written there. So is one that it returns."""
     reads = reads_of(nodes)
 
-    def may_be_in(node: Declare, following: Node | None) -> bool:
-        own = node.variable
-        is_read_once = own.is_temporary and not own.is_set and reads.get(own, 0) == 1
-        return is_read_once and following is not None and any(variable(own) in e.parts() for e in expressions_of(following))
+    def inlined(node: Node, following: Node | None) -> list[Node]:
+        if isinstance(node, Declare) and isinstance(node.value, Expression) and following is not None:
+            own, read = node.variable, [part for e in expressions_of(following) for part in e.parts()]
+            is_once = own.is_temporary and not own.is_set and reads.get(own, 0) == 1 and variable(own) in read
+            if is_once or isinstance(following, Give) and following.value == variable(own):
+                change(following, lambda e: e.replaced(variable(own), node.value))
+                return []
+        return [node]
 
-    def walk(inner: list[Node]) -> list[Node]:
-        out: list[Node] = []
-        for node, following in zip(inner, [*inner[1:], None]):
-            if isinstance(node, Declare) and may_be_in(node, following):
-                change(following, lambda e: e.replaced(variable(node.variable), node.value))
-                continue
-            for each in lists_of(node):
-                each[:] = walk(each)
-            out.append(node)
-        return out
-
-    return walk(nodes)
+    return rewritten(nodes, inlined)
 
 
 def arranged(node: When, is_last: bool) -> When:
     """The arm that leaves is the first, without `!` if there is a choice."""
     condition, yes, no = node.condition, tidy(node.yes, is_last), tidy(node.no, is_last)
-    if not yes or ends(no) and not ends(yes) or ends(no) and ends(yes) and size(no) < size(yes):
-        condition, yes, no = negate(condition), no, yes
-    if ends(yes) and ends(no) and condition.word == "!" and size(no) == size(yes):
+    if not yes or ends(no) and (not ends(yes) or size(no) < size(yes) + (condition.word == "!")):
         condition, yes, no = negate(condition), no, yes
     return When(condition, yes, no)
 
@@ -222,11 +214,7 @@ def tidy(nodes: list[Node], is_last: bool = True) -> list[Node]:
                     out.remove(first)
                     node = While(node.condition, node.body[:-1], first, counter)
         out.append(node)
-    last, before = out[-1] if out else None, out[-2] if len(out) > 1 else None
-    if isinstance(last, Give) and isinstance(before, Declare) and last.value == variable(before.variable) \
-            and isinstance(before.value, Expression):
-        out[-2:] = [Give(before.value)]
-    if is_last and isinstance(last, Give) and last.value is None:
+    if is_last and out and isinstance(out[-1], Give) and out[-1].value is None:
         out.pop()
     return out
 
