@@ -263,14 +263,14 @@ def requirements(text: str) -> list[str]:
 def name_all(nodes: list[Node], taken: set[str]) -> None:
     """Gives each variable a name that nothing around it has."""
     for node in nodes:
-        first = [node.first] if isinstance(node, While) and node.first else []
+        counter = node.counter if isinstance(node, While) else None
         inner = set(taken)
-        for own in [node] if isinstance(node, Declare) else first:
+        for own in [node] if isinstance(node, Declare) else [counter] if counter else []:
             base = own.variable.name or "x"
             if base in taken and isinstance(own.variable.type, Pointer):
                 base += "_bytes"
             name = next(name for count in range(1, 99) if (name := f"{base}{count if count > 1 else ''}") not in taken)
             own.variable.name = name
-            (inner if first else taken).add(name)
+            (inner if counter else taken).add(name)
         for each in lists_of(node):
             name_all(each, inner | taken)

@@ -44,12 +44,11 @@ class When(Node):
 
 @dataclass(eq=False)
 class While(Node):
-    """`step` is what a `for` does at the end of each turn, `first` its first statement."""
+    """`counter` is what a `for` declares, and counts up at the end of each turn."""
 
     condition: Expression | None
     body: list[Node]
-    first: Declare | None = None
-    step: Set | None = None
+    counter: Declare | None = None
 
 
 @dataclass(eq=False)
@@ -78,8 +77,8 @@ def all_nodes(nodes: list[Node]) -> Iterator[Node]:
         yield node
         for inner in lists_of(node):
             yield from all_nodes(inner)
-        if isinstance(node, While):
-            yield from filter(None, (node.first, node.step))
+        if isinstance(node, While) and node.counter:
+            yield node.counter
 
 
 def size(nodes: list[Node]) -> int:
@@ -127,16 +126,16 @@ def must_be_declared(nodes: list[Node], known: Iterable[Variable]) -> None:
     """What is read or set is declared before it, in the same block or around it."""
     seen = set(known)
     for node in nodes:
-        inner, last = seen, []
-        if isinstance(node, While) and node.first and node.step:
-            must_be_declared([node.first], seen)
-            inner, last = seen | {node.first.variable}, [node.step]
+        inner = seen
+        if isinstance(node, While) and node.counter:
+            must_be_declared([node.counter], seen)
+            inner = seen | {node.counter.variable}
         places = [node.place] if isinstance(node, Set) else []
         for part in (part for e in expressions_of(node) + places for part in e.parts()):
             if part.word in ("variable", "address") and part.args[0] not in inner:
                 raise Unknown(f"a variable outside of its block: {part.args[0].name}")
         for each in lists_of(node):
-            must_be_declared(each + last, inner)
+            must_be_declared(each, inner)
         if isinstance(node, Declare):
             seen.add(node.variable)
 
@@ -206,13 +205,13 @@ def tidy(nodes: list[Node], is_last: bool = True) -> list[Node]:
                 node.no, nodes = [], node.no + nodes
         elif isinstance(node, While) and node.condition is None:
             node = loop(While(None, tidy(node.body, False)))
-            counter = node.body[-1] if node.body and node.condition is not None else None
-            if isinstance(counter, Set) and is_count(counter.place, counter.value):
-                first = next((own for own in out if isinstance(own, Declare) and counter.place == variable(own.variable)), None)
+            step = node.body[-1] if node.body and node.condition is not None else None
+            if isinstance(step, Set) and is_count(step):
+                first = next((own for own in out if isinstance(own, Declare) and step.place == variable(own.variable)), None)
                 is_same = first and (first is out[-1] or value_of(first.value) is not None)  # its value, if it comes later
                 if is_same and first.variable not in reads_of(out[out.index(first) + 1:] + nodes):
                     out.remove(first)
-                    node = While(node.condition, node.body[:-1], first, counter)
+                    node = While(node.condition, node.body[:-1], first)
         out.append(node)
     if is_last and out and isinstance(out[-1], Give) and out[-1].value is None:
         out.pop()
@@ -224,9 +223,10 @@ def gives(nodes: list[Node]) -> list[Expression | None]:
     return [node.value for node in nodes if isinstance(node, Give) and len(nodes) == 1]
 
 
-def is_count(place: Expression, value: Expression) -> bool:
-    """i + 1"""
-    return value.word == "+" and value.args[0] == place and value_of(value.args[1]) == 1
+def is_count(node: Set) -> bool:
+    """i = i + 1, where C has ++"""
+    value = node.value
+    return value.word == "+" and value.args[0] == node.place and value_of(value.args[1]) == 1 and value.type.bits <= 64
 
 
 def loop(node: While) -> While:

@@ -201,8 +201,8 @@ class Writer:
                 yield from self.lines(node.no, result, depth + 1)
             yield "}"
         elif isinstance(node, While):
-            if node.first and node.step:
-                yield f"for ({self.declaration(node.first)} {self.text(node.condition)}; {self.setting(node.step)[:-1]}) {{"
+            if node.counter:
+                yield f"for ({self.declaration(node.counter)} {self.text(node.condition)}; {node.counter.variable.name}++) {{"
             else:
                 yield f"while ({self.text(node.condition)}) {{" if node.condition is not None else "for (;;) {"
             yield from self.lines(node.body, result, depth + 1)
