@@ -91,9 +91,8 @@ class Calls(Choices):
             leaf.code.append(Do(e))
             return UNIT
         if printed.effect == CHANGES or printed.result in (forms.PAIR, forms.OPTION, forms.RESULT):
-            name = "" if s.place.steps else frame.name(s.place.local)
             self.prune(frame, s, leaf)
-            e = self.variable_for(e, name or forms.local_name(printed.result.text), leaf, True)
+            e = self.variable_for(e, frame.name(s.place.local) or forms.local_name(printed.result.text), leaf, True)
         return Parts(tuple(self.part(e, (at,)) for at in (0, 1))) if printed.result == forms.PAIR else e
 
     # ---- Results

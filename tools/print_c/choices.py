@@ -73,12 +73,9 @@ class Choices(Memory):
         """One leaf after all of these, or None if what they know is better kept apart."""
         first, merges, env = going[0], [], {}
         for key in set.intersection(*(set(own.env) for own in going)):
-            values = [own.env[key] for own in going]
-            defined = [value for value in values if not isinstance(value, Undefined)]
-            merged = self.merged(defined if len(defined) == 1 else values, merges, key)
-            if merged is None:
+            env[key] = self.merged([own.env[key] for own in going], merges, key)
+            if env[key] is None:
                 return None
-            env[key] = merged
         leaf = first.at(code, env)
         leaf.scope = common([own.scope for own in going])
         leaf.owned = common([own.owned for own in going])

@@ -116,7 +116,7 @@ def one(token: object, value: Expression) -> Expression:
         all_bits = number(-1, value.type.bits)
         return operation("^", value, all_bits) if value.word == "number" else Expression("~", value.type, (value,))
     if word == "Cast" and of[0] == "Unsigned" and of[2] in WIDTHS and (of[1] == "Unsigned" or of[1:] == ["Signed", 32]):
-        return convert(value, of[2], of[1] == "Signed")
+        return convert(value, of[2])
     if word == "CountOnes" and value.type.bits == 32:
         return call("skh_ones32", NUMBERS[32], [value])
     raise Unknown(f"operation {token} of {value.type.text}")

@@ -129,7 +129,7 @@ SMALL = 2 ** 20  # two numbers below it have a sum that is meant as one
 def operation(word: str, a: Expression, b: Expression) -> Expression:
     """`a word b`, modulo 2^bits, of numbers of one width without a sign. Both are numbers of that width, also for shifts."""
     bits, type = a.type.bits, BOOL if word in NEGATED else a.type
-    if b.type.bits != bits or bits == 0 or INT in (a.type, b.type):
+    if b.type.bits != bits or bits == 0:
         raise Unknown(f"{word} of {a.type.text} and {b.type.text}")
     x, y = value_of(a), value_of(b)
     if word in ("/", "%") and y == 0 or word in ("<<", ">>") and y is not None and y >= bits:
@@ -168,14 +168,13 @@ def operation(word: str, a: Expression, b: Expression) -> Expression:
     return Expression(word, type, (a, b))
 
 
-def convert(e: Expression, bits: int, is_signed: bool = False) -> Expression:
+def convert(e: Expression, bits: int) -> Expression:
     """A number in another width: cut, or with zeros above."""
-    type = INT if is_signed else NUMBERS[bits]
-    if e.type == INT or e.type.bits == 0:
-        raise Unknown(f"a cast of {e.type.text} to {type.text}")
-    if e.word == "number" and not is_signed:
+    if e.type.bits == 0:
+        raise Unknown(f"a cast of {e.type.text} to {bits} bits")
+    if e.word == "number":
         return number(e.args[0], bits)
-    if e.type == type:
+    if e.type == NUMBERS[bits]:
         return e
     if e.word == "cast" and e.args[0].type.bits <= min(bits, e.type.bits):  # widened before
         return convert(e.args[0], bits)
@@ -183,7 +182,7 @@ def convert(e: Expression, bits: int, is_signed: bool = False) -> Expression:
         return convert(e.args[0], bits)
     if e.word == "call" and e.args[0] == "skh_wide_low_bits" and (value_of(e.args[3]) or 0) >= bits:
         return convert(e.args[2], bits)
-    return Expression("cast", type, (e,))
+    return Expression("cast", NUMBERS[bits], (e,))
 
 
 def negate(e: Expression) -> Expression:

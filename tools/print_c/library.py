@@ -62,7 +62,7 @@ def read_header(text: str) -> dict[str, Declared]:
     for about, result, name, parameters in DECLARATION.findall(text):
         first = re.sub(r"(?m)^ \*( |$)", "", about.strip()).split("\n\n")[0].replace("\n", " ")
         flat = re.sub(r"\s+", " ", parameters)
-        names = re.findall(r"([^,]*?[ *(])(\w+)\)?(?:\[\d*\])*(?:,|$)", flat) if flat != "void" else []
+        names = re.findall(r"([^,]*?[ *(])(\w+)\)?(?:\[\d*\])*(?:,|$)", flat)
         out[name] = Declared(first, HEADER_TYPES[result], flat, names)
     return out
 
