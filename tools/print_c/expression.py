@@ -65,8 +65,8 @@ class Variable:
 class Expression:
     """An operator of C or one of the words below, and what it is applied to.
 
-    number VALUE, variable VARIABLE, address VARIABLE, at BASE OFFSET (a pointer, in bytes), load POINTER (a number of bytes,
-    the lowest first), element POINTER (a number of an array), member BASE NAME, deref POINTER, call NAME EFFECT ARGUMENTS..,
+    number VALUE, variable VARIABLE, address VARIABLE, at BASE OFFSET (a pointer, in bytes), element POINTER (a number of an
+    array), member BASE NAME, deref POINTER, call NAME EFFECT ARGUMENTS..,
     cast VALUE, any WORDS.. (whether a bit of these is set), ? CONDITION YES NO
     """
 
@@ -82,7 +82,7 @@ class Expression:
 
     def effect(self) -> int:
         """Whether it reads memory, and whether it changes it."""
-        return max(part.args[1] if part.word == "call" else READS if part.word in ("load", "element", "deref")
+        return max(part.args[1] if part.word == "call" else READS if part.word in ("element", "deref")
                    or part.word == "member" and isinstance(part.args[0].type, Pointer)
                    or part.word == "variable" and part.args[0].is_in_memory else NONE for part in self.parts())
 

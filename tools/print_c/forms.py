@@ -4,7 +4,7 @@ from __future__ import annotations
 import re
 from typing import Callable
 
-from expression import BOOL, NUMBERS, VOID, CType, Expression, Pointer, Struct, at, call, convert, number, value_of
+from expression import BOOL, NUMBERS, READS, VOID, CType, Expression, Pointer, Struct, at, call, convert, number, value_of
 from mir import BYTE, UNIT, WORD, Type, Unknown
 from mir import BOOL as FLAG
 
@@ -91,7 +91,7 @@ def load(pointer: Expression, bits: int) -> Expression:
         raise Unknown(f"a number of {bits} bits from {pointer.type}")
     if bits == 128:
         return call("skh_wide", NUMBERS[128], [load(at(pointer, number(8, 64)), 64), load(pointer, 64)])
-    return Expression("load", NUMBERS[bits], (pointer,))
+    return call(f"skh_load{bits}", NUMBERS[bits], [pointer], READS)
 
 
 def rotate_left(word: Expression, places: Expression) -> Expression:

@@ -75,7 +75,7 @@ class Memory(Places):
     def store_vector(self, pointer: Expression, words: tuple[Value, ...], leaf: Leaf) -> None:
         """All words are read before one is written, unless each is read where it is written."""
         places = [at(pointer, number(4 * i, 64)) for i in range(len(words))]
-        if any(part.args[0] != place for e, place in zip(words, places) for part in e.parts() if part.word == "load"):
+        if any(part.args[2] != place for e, place in zip(words, places) for part in e.parts() if part.args[0] == "skh_load32"):
             words = tuple(self.variable_for(e, "word", leaf) for e in words)
         for place, word in zip(places, words):
             self.do("skh_store32", [place, word], leaf)

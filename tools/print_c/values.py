@@ -129,7 +129,7 @@ def weight(e: Expression) -> int:
         return 0
     if e.word == "member" and e.args[0].word == "variable" and not e.reads_memory():
         return 0
-    if e.word in ("call", "load", "element", "member", "deref", "?", "any") or e.word == "cast" and e.type.bits == 0:
+    if e.word in ("call", "element", "member", "deref", "?", "any") or e.word == "cast" and e.type.bits == 0:
         return 99
     return sum(weight(arg) for arg in e.args if isinstance(arg, Expression)) + (e.word != "cast")
 

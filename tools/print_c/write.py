@@ -66,8 +66,6 @@ class Writer:
             return f"&{e.args[0].name}", UNARY
         if e.word == "at":
             return self.pointer(e)
-        if e.word == "load":
-            return f"skh_load{e.type.bits}({self.text(e.args[0])})", POSTFIX
         if e.word == "element":
             return self.element(e.args[0])
         if e.word == "member":
