@@ -65,7 +65,7 @@ class Variable:
 class Expression:
     """An operator of C or one of the words below, and what it is applied to.
 
-    number VALUE, variable VARIABLE, address VARIABLE, at BASE OFFSET (a pointer, in bytes), element POINTER (a number of an
+    number VALUE, variable VARIABLE, address VALUE, at BASE OFFSET (a pointer, in bytes), element POINTER (a number of an
     array), member BASE NAME, deref POINTER, call NAME EFFECT ARGUMENTS..,
     cast VALUE, any WORDS.. (whether a bit of these is set), ? CONDITION YES NO
     """
@@ -90,7 +90,7 @@ class Expression:
         return self.effect() != NONE
 
     def variables(self) -> set[Variable]:
-        return {part.args[0] for part in self.parts() if part.word in ("variable", "address")}
+        return {part.args[0] for part in self.parts() if part.word == "variable"}
 
     def changed(self, change: Callable[[Expression], Expression]) -> Expression:
         """With each expression changed that it is applied to."""

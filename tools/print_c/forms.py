@@ -30,9 +30,9 @@ PARTS = {
 OFFSET_OF_NOTHING = re.compile(r"sketch_murmur3_x64_128$|sketch_\w+_each(32|64)$")
 # The names of constant arrays.
 ARRAYS = {(28, 28, 0, 0, 28, 28, 0, 0, 28, 28, 0, 0, 0): "skh_union_fields"}
-# The numbers that stand for errors, by the function that returns them.
-STATUSES = {1: "1", 0: "SKETCH_OK", -1: "SKETCH_ERROR_LENGTH", -2: "SKETCH_ERROR_OFFSET", -3: "SKETCH_ERROR_COUNT",
-            -5: "SKETCH_ERROR_SEED"}
+# What calls return as an int, by its 32 bits.
+STATUSES = {1: "1", 0: "SKETCH_OK", 2 ** 32 - 1: "SKETCH_ERROR_LENGTH", 2 ** 32 - 2: "SKETCH_ERROR_OFFSET",
+            2 ** 32 - 3: "SKETCH_ERROR_COUNT", 2 ** 32 - 5: "SKETCH_ERROR_SEED"}
 
 PAIR = Struct("struct skh_pair", 0, (("first", NUMBERS[64]), ("second", NUMBERS[64])))
 OPTION = Struct("struct skh_option", 0, (("is_some", BOOL), ("value", NUMBERS[64])))

@@ -195,7 +195,7 @@ class Library:
         entries = [self.entry(path) for path in roots]
         constants = {value: f"SKH_{name}" for name, value in self.sources.constants.items()}
         writer, ordered = Writer(constants, self.with_vectors), list(self.in_order(entries, set()))
-        out = [head, *structs(ordered)]
+        out = [head, *structs(ordered, head)]
         for title in (*forms.PARTS, "Calls"):
             texts = [self.function_text(own, writer) for own in ordered if own.title == title]
             lines = {name: f"#define {name} 0x{value:x}u" for value, name in constants.items()}
@@ -245,12 +245,11 @@ class Library:
         return re.sub(r"`([\w:]+)`", word, text)
 
 
-def structs(functions: list[Printed]) -> list[str]:
+def structs(functions: list[Printed], head: str) -> list[str]:
     """The structs that are neither in the header nor in the head of the text."""
     types = dict.fromkeys([own.result for own in functions] + [own.type for each in functions for own in each.parameters])
-    of_head = (forms.PAIR, forms.OPTION, forms.RESULT)
     return [f"{own.text} {{\n    uint64_t {', '.join(name for name, _ in own.members)};\n}};\n" for own in types
-            if own.text.startswith("struct skh_") and isinstance(own, Struct) and own not in of_head]
+            if own.text.startswith("struct skh_") and isinstance(own, Struct) and f"{own.text} {{" not in head]
 
 
 def requirements(text: str) -> list[str]:

@@ -105,8 +105,7 @@ class Memory(Places):
         """An array of C, whose address may be passed on."""
         if type.word != "Array" or type.of.bits not in (8, 32, 64):
             raise Unknown(f"{self.path}: {name or 'a local'} of {type} in memory")
-        text = "unsigned char" if type.of == BYTE else f"uint{type.of.bits}_t"
-        own = Variable(name, Pointer(text, 0, type.of.bits // 8, is_array=True), type.count, is_in_memory=True)
+        own = Variable(name, forms.pointer_to(type, False, False, self.library.struct), type.count, is_in_memory=True)
         if isinstance(value, Spelled):
             own.is_set, own.name = True, name or "bytes"
             leaf.code.append(Declare(own, None))
@@ -147,7 +146,7 @@ class Memory(Places):
             held = leaf.env[value.key] = InMemory(held.args[0])
         if isinstance(held, InMemory) and not value.path:
             own = held.variable
-            return variable(own) if own.count else Expression("address", Pointer(own.type.text, 0, 0), (own,))
+            return variable(own) if own.count else Expression("address", Pointer(own.type.text, 0, 0), (variable(own),))
         at = (self.frames[value.key[0] - 1].function.path, value.key[1])
         if value.path or at in self.in_memory:
             raise Unknown(f"{self.path}: a pointer to {value}")

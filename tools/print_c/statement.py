@@ -117,7 +117,7 @@ def reads_of(nodes: list[Node]) -> dict[Variable, int]:
     for node in all_nodes(nodes):
         for e in expressions_of(node):
             for part in e.parts():
-                if part.word in ("variable", "address"):
+                if part.word == "variable":
                     reads[part.args[0]] = reads.get(part.args[0], 0) + 1
     return reads
 
@@ -132,7 +132,7 @@ def must_be_declared(nodes: list[Node], known: Iterable[Variable]) -> None:
             inner = seen | {node.counter.variable}
         places = [node.place] if isinstance(node, Set) else []
         for part in (part for e in expressions_of(node) + places for part in e.parts()):
-            if part.word in ("variable", "address") and part.args[0] not in inner:
+            if part.word == "variable" and part.args[0] not in inner:
                 raise Unknown(f"a variable outside of its block: {part.args[0].name}")
         for each in lists_of(node):
             must_be_declared(each, inner)

@@ -19,6 +19,7 @@ ROWS = ("", "||", "&&", "|", "^", "&", "== !=", "< <= > >=", "<< >>", "+ -", "* 
 LEVELS = {word: level for level, words in enumerate(ROWS) for word in words.split()}
 TERNARY, UNARY, POSTFIX = 0, 11, 12
 BITS = {"|", "^", "&", "<<", ">>"}  # beside which all other operators are set in brackets
+PREFIXES = {"address": "&", "deref": "*", "!": "!", "~": "~"}
 WIDE = {"+": "add", "*": "mul", "<<": "left", ">>": "right"}
 COMPARISONS = {"==", "!=", "<", "<=", ">", ">="}
 COLUMN_READS, COLUMN_WRITES = {4: "skh_get32", 8: "skh_get64"}, {8: "skh_set64"}  # by the size of an element
@@ -62,8 +63,6 @@ class Writer:
             return text, LEVELS["<<"] if "<<" in text else POSTFIX
         if e.word == "variable":
             return e.args[0].name, POSTFIX
-        if e.word == "address":
-            return f"&{e.args[0].name}", UNARY
         if e.word == "at":
             return self.pointer(e)
         if e.word == "element":
@@ -79,10 +78,8 @@ class Writer:
             return self.cast(e)
         if e.word == "~" and e.type.bits < 32:
             return f"({e.type.text})~{self.text(e.args[0], UNARY)}", UNARY
-        if e.word in ("!", "~"):
-            return f"{e.word}{self.text(e.args[0], UNARY)}", UNARY
-        if e.word == "deref":
-            return f"*{self.text(e.args[0], UNARY)}", UNARY
+        if e.word in PREFIXES:
+            return f"{PREFIXES[e.word]}{self.text(e.args[0], UNARY)}", UNARY
         if e.word == "?":
             return f"{self.text(e.args[0], 1)} ? {self.text(e.args[1], 1)} : {self.text(e.args[2])}", TERNARY
         if e.word in LEVELS:
@@ -227,17 +224,12 @@ class Writer:
         if type.text == "size_t" and e.type.text == "uint64_t" and e.word != "number":
             return f"(size_t){self.text(e, UNARY)}"
         if type == INT and e.word == "number":
-            return self.status(e.args[0])
+            if e.args[0] not in STATUSES:
+                raise Unknown(f"status {e.args[0]}")
+            return STATUSES[e.args[0]]
         if type.bits in (8, 16) and e.type == BOOL:
             return f"({type.text}){self.text(e, UNARY)}"
         return self.text(e)
-
-    @staticmethod
-    def status(value: int) -> str:
-        signed = value - 2 ** 32 if value >= 2 ** 31 else value
-        if signed not in STATUSES:
-            raise Unknown(f"status {signed}")
-        return STATUSES[signed]
 
     def declaration(self, node: Declare) -> str:
         own, value = node.variable, node.value
