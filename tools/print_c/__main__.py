@@ -4,9 +4,9 @@
 
 mir.py reads what the compiler knows of a crate, liveness.py says how often locals are read, source.py reads names and comments.
 library.py says which functions are printed. Of each, evaluate.py goes through the body, and makes statements of it: frames.py
-has the names of its locals, values.py what they hold, places.py and memory.py read and write, choices.py has conditions and
-loops, calls.py has calls. expression.py and statement.py are the words of C, forms.py says what stands for what, and write.py
-makes text of it. head.c is the beginning of the text.
+has the names of its locals, values.py what they hold, memory.py reads and writes, choices.py has conditions and loops.
+expression.py and statement.py are the words of C, forms.py says what stands for what, and write.py makes text of it. head.c is
+the beginning of the text.
 """
 import pathlib
 import sys

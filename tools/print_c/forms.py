@@ -1,12 +1,14 @@
-"""What the types and the functions of the source are in C. What is in none of these tables stays out of the text."""
+"""What the types, operations and functions of the source are in C. What is in none of these tables stays out of the text."""
 from __future__ import annotations
 
 import re
 from typing import Callable
 
-from expression import BOOL, NUMBERS, READS, VOID, CType, Expression, Pointer, Struct, at, call, convert, number, value_of
-from mir import BYTE, UNIT, WORD, Type, Unknown
+from expression import (BOOL, NUMBERS, READS, VOID, CType, Expression, Pointer, Struct, at, call, convert, negate, number,
+                        operation, value_of)
 from mir import BOOL as FLAG
+from mir import BYTE, UNIT, WIDTHS, WORD, Statement, Type, Unknown, word_of
+from values import Parts, Value, parts_of
 
 # Structs of the source that are structs of C. A function with any other in its signature is written out where it is called.
 STRUCTS = {
@@ -81,6 +83,66 @@ def result_of(type: Type, struct: Callable[[Type], Struct]) -> CType:
     if type.args in (("core::result::Result", (WORD, WORD)), ("core::result::Result", (UNIT, WORD))):
         return RESULT
     return struct(type)
+
+
+# ---- Operations
+
+OPERATORS = {"WrapAdd": "+", "WrapSub": "-", "WrapMul": "*", "Add": "+", "Sub": "-", "Mul": "*", "Div": "/", "Rem": "%",
+             "Shl": "<<", "Shr": ">>", "And": "&", "Or": "|", "Xor": "^", "Eq": "==", "Ne": "!=", "Lt": "<", "Le": "<="}
+SIGNED = {"Add", "Sub", "Mul", "Div", "Rem", "Shr", "Lt", "Le"}  # which say whether their numbers have a sign
+
+# The operations on vectors, by the width of their lanes.
+LANES = {8: ("And", "Or", "Xor"), 32: ("And", "Or", "Xor", "Shl", "Shr", "WrapAdd", "WrapMul")}
+
+
+def operator_of(token: object) -> str:
+    """The operator in C of an operation on numbers without a sign."""
+    word, sign = word_of(token)
+    if word not in OPERATORS or sign != ("Unsigned" if word in SIGNED else None):
+        raise Unknown(f"operation {token}")
+    return OPERATORS[word]
+
+
+def one(token: object, value: Expression) -> Expression:
+    word, of = word_of(token)
+    if word == "Not" and value.type == BOOL:
+        return negate(value)
+    if word == "Not" and value.type.bits in (8, 16, 32, 64):
+        all_bits = number(-1, value.type.bits)
+        return operation("^", value, all_bits) if value.word == "number" else Expression("~", value.type, (value,))
+    if word == "Cast" and of[0] == "Unsigned" and of[2] in WIDTHS and (of[1] == "Unsigned" or of[1:] == ["Signed", 32]):
+        return convert(value, of[2])
+    if word == "CountOnes" and value.type.bits == 32:
+        return call("skh_ones32", NUMBERS[32], [value])
+    raise Unknown(f"operation {token} of {value.type.text}")
+
+
+def vector(s: Statement, values: list[Value], type: Type) -> Value:
+    """Vectors are words of 32 bits, see Memory.read."""
+    word, of = word_of(s.of)
+    if s.word == "Vec1" and word == "Recast":
+        return values[0]
+    if s.word == "Vec2" and word == "Map" and word_of(of)[0] in LANES.get(type.of.bits, ()):
+        return Parts(tuple(lane(operator_of(of), a, b) for a, b in zip(*map(parts_of, values), strict=True)))
+    if s.word == "Vec2" and word == "Fold" and of == "Or" and value_of(values[0]) == 0:
+        return Expression("any", NUMBERS[8], parts_of(values[1]))
+    raise Unknown(f"vector operation {s.of}")
+
+
+def lane(word: str, a: Expression, b: Expression) -> Expression:
+    if word == "<<" and value_of(a) == 1:
+        return call("skh_bit", NUMBERS[32], [b])
+    if word == "^" and a.word == "|" and a.args[0] == b:  # (b | c) ^ b
+        return operation("&", Expression("~", b.type, (b,)), a.args[1])
+    return operation(word, a, b)
+
+
+def size_of(type: Type) -> int:
+    if type.bits:
+        return type.bits // 8
+    if type.word == "Array":
+        return type.count * size_of(type.of)
+    raise Unknown(f"the size of {type}")
 
 
 # ---- Functions of the standard library that have a form of their own. All others are written out from their bodies.
