@@ -25,14 +25,13 @@ def has_bytes(value: Value) -> bool:
 
 
 class Where(NamedTuple):
-    """A part of the local `key`, or what `pointer` points to: a value of `type`, or a member of a `struct` by its index."""
+    """A value of a type: a part of the local `key`, or what `pointer` points to, or a member of the struct there."""
 
     type: Type
     key: Key = (0, 0)
     path: Path = ()
     pointer: Expression | None = None
-    struct: Type | None = None
-    member: int = 0
+    member: Value | None = None
     variant: int | None = None  # of the enum that the path leads to
 
 
@@ -64,7 +63,7 @@ class Memory:
                     raise Unknown(f"{self.path}: what {value} points to")
             elif step.word == "Variant" and where.pointer is None and where.variant is None:
                 where = where._replace(variant=step.of)
-            elif step.word == "Field" and where.struct is None:
+            elif step.word == "Field" and where.member is None:
                 where = self.field(where, step.of)
             else:
                 raise Unknown(f"{self.path}: a {step.word} of {where.type} in memory")
@@ -81,16 +80,17 @@ class Memory:
             else:
                 inner = fields[index]
         if where.pointer is not None:
-            return where._replace(type=inner, struct=type, member=index)
+            name, form = self.library.struct(type).members[index]
+            return where._replace(type=inner, member=member(where.pointer, name, form, where.pointer.type.is_const))
         variant = () if where.variant is None or index == 0 else (where.variant,)
         return Where(inner, where.key, (*where.path, *variant, index))
 
     def read(self, where: Where, leaf: Leaf, name: str = "block") -> Value:
         type, pointer = where.type, where.pointer
+        if where.member is not None:
+            return where.member
         if pointer is None:
             return self.part(leaf.env.get(where.key, Undefined()), where.path)
-        if where.struct is not None:
-            return self.member(where)
         if type.word == "Vector" and type.of.bits in (8, 32):
             pointer = self.named_pointer(pointer, leaf, name)
             return Parts(tuple(forms.load(at(pointer, number(4 * i, 64)), 32) for i in range(type.of.bits * type.count // 32)))
@@ -99,11 +99,6 @@ class Memory:
         if type.word == "Array" and type.of == BYTE and pointer.type.size == 1:
             return Bytes(pointer, type.count)
         raise Unknown(f"{self.path}: a read of {type} at {pointer.type.text}")
-
-    def member(self, where: Where) -> Value:
-        """A member of a struct in memory."""
-        name, form = self.library.struct(where.struct).members[where.member]
-        return member(where.pointer, name, form, where.pointer.type.is_const)
 
     def part(self, value: Value, path: Path) -> Value:
         """A part of what a local holds. That of an enum is its tag, or a variant and a field."""
@@ -192,9 +187,8 @@ class Memory:
 
     def store_at(self, where: Where, value: Value, leaf: Leaf) -> None:
         type, pointer = where.type, where.pointer
-        if where.struct is not None:
-            name, form = self.library.struct(where.struct).members[where.member]
-            self.store_member(pointer, name, form, value, leaf)
+        if where.member is not None:
+            self.store_member(where.member, value, leaf)
         elif type.word == "Vector":
             self.store_vector(self.named_pointer(pointer, leaf, "place"), parts_of(value), leaf)
         elif type.bits and type.bits // 8 == pointer.type.size:
@@ -207,14 +201,13 @@ class Memory:
                 self.store(place, part, leaf)
         elif type.word == "Named" and isinstance(value, Parts):
             for part, (name, form) in zip(value.parts, self.library.struct(type).members, strict=True):
-                self.store_member(pointer, name, form, part, leaf)
+                self.store_member(member(pointer, name, form, False), part, leaf)
         elif type.word == "Named":
             self.store(Expression("deref", self.library.struct(type), (pointer,)), value, leaf)
         else:
             raise Unknown(f"{self.path}: a write of {type}")
 
-    def store_member(self, base: Expression, name: str, form: object, value: Value, leaf: Leaf) -> None:
-        place = member(base, name, form, False)
+    def store_member(self, place: Value, value: Value, leaf: Leaf) -> None:
         if isinstance(place, Bytes):
             self.store_bytes(place.pointer, value, place.count, leaf)
         else:
@@ -272,17 +265,14 @@ class Memory:
         own.is_set = True
         leaf.code.append(Declare(own, None))
         for part, (name, form) in zip(value.parts, own.type.members, strict=True):
-            self.store_member(variable(own), name, form, part, leaf)
+            self.store_member(member(variable(own), name, form, False), part, leaf)
 
     def address(self, where: Where) -> Value:
-        if where.pointer is None:
-            return ToLocal(where.key, where.path)
-        value = where.pointer if where.struct is None else self.member(where)
-        if isinstance(value, Bytes):
-            return value.pointer
-        if where.struct is not None:
+        if isinstance(where.member, Bytes):
+            return where.member.pointer
+        if where.member is not None:
             raise Unknown(f"{self.path}: the address of a member")
-        return value
+        return ToLocal(where.key, where.path) if where.pointer is None else where.pointer
 
     def pointer(self, value: Value, leaf: Leaf) -> Expression:
         """A pointer of C. A local that it points to is placed in memory."""
