@@ -50,7 +50,8 @@ class Body(Choices):
         elif s.word != "Return":
             self.assign(frame, s, self.right(frame, s, leaf), leaf)
         elif frame is self.frames[0]:
-            self.give(leaf.env.get((frame.number, 0), UNIT), leaf)
+            value = leaf.env.get((frame.number, 0), UNIT)
+            leaf.code.append(Give(None if self.result == VOID else self.given_value(value, leaf)))
             return []
         else:
             leaf.target = RETURN
@@ -181,9 +182,6 @@ class Body(Choices):
         return Parts(tuple(self.part(e, (at,)) for at in (0, 1))) if printed.result == forms.PAIR else e
 
     # ---- Results
-
-    def give(self, value: Value, leaf: Leaf) -> None:
-        leaf.code.append(Give(None if self.result == VOID else self.given_value(value, leaf)))
 
     def given_value(self, value: Value, leaf: Leaf) -> Expression:
         if self.result == forms.PAIR and isinstance(value, Parts):

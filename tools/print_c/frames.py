@@ -30,7 +30,7 @@ class Frame:
                 self.scan(body, source, calls)
             if s.place is None:
                 continue
-            local, called = s.place.local, name_of(s)
+            local, called = s.place.local, s.of[0].split("::")[-1] if s.word == "Call" and isinstance(s.of[0], str) else ""
             if not s.place.steps:
                 self.sets[local] = self.sets.get(local, 0) + 1
             for comment in source.comments:
@@ -49,7 +49,3 @@ class Frame:
 
     def name(self, local: int) -> str:
         return self.names.get(local) or self.hints.get(local) or ""
-
-
-def name_of(s: Statement) -> str:
-    return s.of[0].split("::")[-1] if s.word == "Call" and isinstance(s.of[0], str) else ""

@@ -332,7 +332,7 @@ class Memory:
         def settle(e: Expression) -> Expression:
             if weight(e) <= most or may_be_inside or is_step(e):
                 return e
-            return self.variable_for(e, names[is_slice and e.type.bits > 0], leaf, is_named and isinstance(value, Expression))
+            return self.variable_for(e, names[is_slice and e.type.bits > 0], leaf, is_named)
 
         leaf.env[key] = changed(value, settle)
 

@@ -46,19 +46,14 @@ def paragraphs(lines: list[str]) -> list[str]:
     return [" ".join(own.split("\n")).strip() for own in re.split(r"\n\n+", plain) if own.strip()]
 
 
-def names_in(pattern: str) -> list[str | None]:
-    return [word for word in re.findall(r"(?<![\w:])[a-z]\w*(?!\w|::|\()", pattern) if word not in ("mut", "ref")]
-
-
 def bindings(text: str) -> list[tuple[int, list[str | None]]]:
     """The place of each pattern, and the names that it binds, None for a local without a name."""
     out: list[tuple[int, list[str | None]]] = []
     for match in BINDING.finditer(text):
+        names: list[str | None] = re.findall(r"\b(?!mut\b)[a-z]\w*(?!\w|::|\()", match["let"] or match["arms"] or "")
         if match["each"]:
             names = [None] * (".." not in match["over"]) + [match["each"]]
-        else:
-            names = [None, None] if match["try"] else names_in(match["let"] or match["arms"])
-        out.append((match.start(), names))
+        out.append((match.start(), [None, None] if match["try"] else names))
     return out
 
 
