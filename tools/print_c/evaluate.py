@@ -13,7 +13,7 @@ from expression import CHANGES, VOID, Expression, Struct, Variable, at, call, nu
 from frames import Frame
 from memory import Again
 from mir import Given, Operand, Place, Statement, Unknown, number_of
-from statement import Do, Give
+from statement import Do, Give, Node
 from values import (END, RETURN, UNIT, Bytes, Choice, InMemory, Key, Leaf, Parts, Spelled, ToLocal, Value, expression_of,
                     parts_of)
 
@@ -24,17 +24,16 @@ if TYPE_CHECKING:
 class Body(Choices):
     """The statements of one function of C."""
 
-    def evaluate(self, values: list[Value], parameters: list[Variable]) -> None:
-        while True:
-            self.frames, self.code = [], []
-            root = self.frame(self.path, self.given, True, set())
-            env = {(root.number, local): value for local, value in enumerate(values, 1)}
-            leaf = Leaf(env, self.code, {own.name: own for own in parameters}, owned=dict(env))
-            try:
-                self.run(root, root.function.body, leaf, True)
-                return
-            except Again:
-                pass
+    def evaluate(self, values: list[Value], parameters: list[Variable]) -> list[Node]:
+        self.frames = []
+        root = self.frame(self.path, self.given, True, set())
+        env = {(root.number, local): value for local, value in enumerate(values, 1)}
+        leaf = Leaf(env, [], {own.name: own for own in parameters}, owned=dict(env))
+        try:
+            self.run(root, root.function.body, leaf, True)
+        except Again:
+            return self.evaluate(values, parameters)
+        return leaf.code
 
     def step(self, frame: Frame, s: Statement, leaf: Leaf, tail: bool) -> list[Leaf]:
         if s.word == "Call":

@@ -162,8 +162,8 @@ class Library:
 
     def finish(self, printed: Printed, body: Body, values: list[list[Expression]]) -> Printed:
         self.by_name[printed.name] = printed
-        body.evaluate([Parts(tuple(own)) if len(own) > 1 else own[0] for own in values], printed.parameters)
-        printed.body = tidy(inline_once(without_unread(body.code)))
+        code = body.evaluate([Parts(tuple(own)) if len(own) > 1 else own[0] for own in values], printed.parameters)
+        printed.body = tidy(inline_once(without_unread(code)))
         must_be_declared(printed.body, [*printed.parameters, *self.arrays.values()])
         reads = reads_of(printed.body)
         printed.is_used = [own in reads or bool(printed.head) for own in printed.parameters]

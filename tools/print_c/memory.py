@@ -8,7 +8,7 @@ from expression import (CHANGES, NUMBERS, VOID, CType, Expression, Pointer, Stru
                         operation, value_of, variable)
 from frames import Frame
 from mir import BYTE, WORD, Given, Place, Statement, Type, Unknown
-from statement import Declare, Do, Node, Set
+from statement import Declare, Do, Set
 from values import (Bytes, Choice, InMemory, Key, Leaf, Parts, Path, Spelled, ToLocal, Undefined, Value, changed,
                     expression_of, is_free, is_step, leaves, parts_of, put, weight)
 
@@ -48,7 +48,6 @@ class Memory:
         self.library, self.crates, self.path, self.given, self.result = library, library.crates, path, given, result
         self.in_memory: set[tuple[str, int]] = set()  # the locals whose addresses are passed on
         self.frames: list[Frame] = []
-        self.code: list[Node] = []
 
     def locate(self, frame: Frame, place: Place, leaf: Leaf) -> Where:
         where = Where(frame.given.type(frame.function.locals[place.local]), (frame.number, place.local))

@@ -8,7 +8,7 @@ import json
 import pathlib
 from dataclasses import dataclass, field
 from functools import cache
-from typing import Any, Iterator, NamedTuple
+from typing import Any, Iterator, NamedTuple, Sequence
 
 
 class Unknown(Exception):
@@ -309,17 +309,15 @@ class Crates:
             raise Unknown(f"method {callee[1]} of {own.name}")
         return self.methods[own.name, callee[1]], Given(own.types + more.types, own.dicts + more.dicts)
 
-    def shape(self, type: Type) -> tuple[str, list[Any]]:
+    def shape(self, type: Type) -> tuple[str, Sequence[Any]]:
         """Fields and their types, or Variants and the types of the fields of each."""
         if type.name not in self.shapes:
             raise Unknown(f"the shape of {type.name or type}")
-        word, of = word_of(self.shapes[type.name])
-        given = Given(type.args[1])
-        if word == "Fields":
-            return word, [given.type(read_type(own)) for own in of]
-        if word == "Variants":
-            return word, [[given.type(read_type(own)) for own in each] for each in of]
-        raise Unknown(f"{type.name} has {word}")
+        (word, of), given = word_of(self.shapes[type.name]), Given(type.args[1])
+        if word not in ("Fields", "Variants"):
+            raise Unknown(f"{type.name} has {word}")
+        fields = [given.type(read_all(read_type, each)) for each in (of if word == "Variants" else [of])]
+        return word, fields if word == "Variants" else fields[0]
 
 
 def read_crates(folders: list[pathlib.Path]) -> Crates:

@@ -8,8 +8,7 @@ from __future__ import annotations
 import textwrap
 from typing import Iterator
 
-from expression import (BOOL, INT, NUMBERS, CType, Expression, Pointer, Struct, base_and_offset, convert, divide, number,
-                        value_of)
+from expression import BOOL, INT, SIZE, CType, Expression, Pointer, base_and_offset, convert, divide, number, value_of
 from forms import STATUSES
 from mir import Unknown
 from statement import Break, Comment, Declare, Do, Give, Node, Set, When, While
@@ -23,12 +22,6 @@ PREFIXES = {"address": "&", "deref": "*", "!": "!", "~": "~"}
 WIDE = {"+": "add", "*": "mul", "<<": "left", ">>": "right"}
 COMPARISONS = {"==", "!=", "<", "<=", ">", ">="}
 COLUMN_READS, COLUMN_WRITES = {4: "skh_get32", 8: "skh_get64"}, {8: "skh_set64"}  # by the size of an element
-
-
-def named(names: dict[int, str], size: int) -> str:
-    if size not in names:
-        raise Unknown(f"a column of {size} bytes an element")
-    return names[size]
 
 
 def is_int(e: Expression) -> bool:
@@ -108,10 +101,15 @@ class Writer:
         base, offset = base_and_offset(pointer)
         size = pointer.type.size // (pointer.type.inner or 1)
         if pointer.type.is_column:
-            return f"{named(COLUMN_READS, size)}({self.text(pointer)})", POSTFIX
+            return self.column(COLUMN_READS, size, pointer), POSTFIX
         if value_of(offset) == 0 and not pointer.type.is_array and base.word != "member" and size > 1:
             return f"*{self.text(base, UNARY)}", UNARY
         return f"{self.text(base, POSTFIX)}[{self.text(divide(offset, size))}]", POSTFIX
+
+    def column(self, names: dict[int, str], size: int, *args: Expression) -> str:
+        if size not in names:
+            raise Unknown(f"a column of {size} bytes an element")
+        return f"{names[size]}({', '.join(map(self.text, args))})"
 
     def cast(self, e: Expression) -> tuple[str, int]:
         of, bits = e.args[0], e.type.bits
@@ -235,16 +233,13 @@ class Writer:
         own, value = node.variable, node.value
         const, type = "" if own.is_set else "const ", own.type
         if own.count:
-            text, forms = f"{const}{type.text} {own.name}[{own.count}]", [NUMBERS[8 * type.size]] * own.count
-        elif isinstance(type, Pointer):
-            text, forms = type.declare(f"{const}{own.name}"), []
+            text = f"{const}{type.text} {own.name}[{own.count}]"
         else:
-            text = f"{const}{type.text} {own.name}"
-            forms = [form for _, form in type.members] if isinstance(type, Struct) else []
+            text = type.declare(f"{const}{own.name}") if isinstance(type, Pointer) else f"{const}{type.text} {own.name}"
         if value is None:
             return f"{text};"
         if isinstance(value, list):
-            return f"{text} = {{{', '.join(self.assigned(each, form) for each, form in zip(value, forms))}}};"
+            return f"{text} = {{{', '.join(self.assigned(each, each.type) for each in value)}}};"
         return f"{text} = {self.assigned(value, type)};"
 
     def setting(self, node: Set) -> str:
@@ -253,9 +248,8 @@ class Writer:
         if place.word == "element":
             pointer = place.args[0]
             if pointer.type.is_column:
-                name = named(COLUMN_WRITES, pointer.type.size // (pointer.type.inner or 1))
-                return f"{name}({self.text(pointer)}, {self.text(value)});"
-            type = CType("size_t", 64) if pointer.type.text == "size_t" else type
+                return f"{self.column(COLUMN_WRITES, pointer.type.size // (pointer.type.inner or 1), pointer, value)};"
+            type = SIZE if pointer.type.text == "size_t" else type
         text = self.text(place)
         if value.word in ("+", "-") and value.args[0] == place and value_of(value.args[1]) == 1 and type.bits in (32, 64):
             return f"{text}{value.word * 2};"
