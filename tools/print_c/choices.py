@@ -17,7 +17,7 @@ class Choices(Memory):
         """The leaves after these statements. `tail`: whether what follows them only returns a value."""
         out: list[Leaf] = []
         for i, s in enumerate(statements):
-            only_returns = self.only_returns(frame, statements[i + 1:], tail)
+            only_returns = tail and all(own.word in ("Opd", "Aggregate", "Return") for own in statements[i + 1:])
             if id(s) in frame.comments:
                 leaf.code.append(Comment(frame.comments[id(s)]))
             code, came = leaf.code, self.step(frame, s, leaf, only_returns)
@@ -32,14 +32,6 @@ class Choices(Memory):
                 return out + going
             leaf = going[0]
         return out + [leaf]
-
-    def only_returns(self, frame: Frame, statements: list[Statement], tail: bool) -> bool:
-        for s in statements:
-            if s.word == "Return":
-                return frame.tail
-            if s.word not in ("Opd", "Aggregate") or s.place.steps:
-                return False
-        return tail
 
     @staticmethod
     def left(leaf: Leaf) -> Leaf:

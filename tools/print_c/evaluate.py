@@ -26,7 +26,7 @@ class Body(Choices):
 
     def evaluate(self, values: list[Value], parameters: list[Variable]) -> list[Node]:
         self.frames = []
-        root = self.frame(self.path, self.given, True, set())
+        root = self.frame(self.path, self.given, set())
         env = {(root.number, local): value for local, value in enumerate(values, 1)}
         leaf = Leaf(env, [], {own.name: own for own in parameters}, owned=dict(env))
         try:
@@ -103,13 +103,13 @@ class Body(Choices):
 
     # ---- Calls
 
-    def frame(self, path: str, given: Given, tail: bool, caller_keys: set[Key]) -> Frame:
+    def frame(self, path: str, given: Given, caller_keys: set[Key]) -> Frame:
         if len(self.frames) > 2000:
             raise Unknown(f"{self.path}: too many calls to be written out")
         function = self.crates.function(path)
         if not function.entry:
             liveness.mark(function)
-        self.frames.append(Frame(len(self.frames) + 1, function, given, self.library.sources.of(path), tail, caller_keys))
+        self.frames.append(Frame(len(self.frames) + 1, function, given, self.library.sources.of(path), caller_keys))
         return self.frames[-1]
 
     def call(self, frame: Frame, s: Statement, leaf: Leaf, tail: bool) -> list[Leaf]:
@@ -146,7 +146,7 @@ class Body(Choices):
                   tail: bool) -> list[Leaf]:
         """Evaluates the called function here."""
         keys = {(frame.number, local) for local in s.after} | frame.caller_keys
-        inner = self.frame(path, given, tail, keys)
+        inner = self.frame(path, given, keys)
         leaf.env = {key: value for key, value in leaf.env.items() if key in keys}
         for local, (arg, operand) in enumerate(zip(args, s.operands), 1):
             here = frame.name(operand.local) if isinstance(operand, Place) and not operand.steps else ""
@@ -155,7 +155,7 @@ class Body(Choices):
             if isinstance(arg, Expression) and arg.word == "call" and arg.args[0] in self.library.by_name:
                 arg = self.variable_for(arg, inner.name(local), leaf)  # it is called before the function
             self.define(inner, local, arg, leaf, inner.function.entry.get(local, 0))
-        out, result = self.run(inner, inner.function.body, leaf, False), (inner.number, 0)
+        out, result = self.run(inner, inner.function.body, leaf, tail), (inner.number, 0)
         for own in out:
             if own.target != RETURN:
                 raise Unknown(f"{path}: it ends without a return")

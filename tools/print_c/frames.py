@@ -9,10 +9,10 @@ from values import Key
 
 
 class Frame:
-    """The function that is printed, or one that is written out in it. `tail`: whether what it returns is returned."""
+    """The function that is printed, or one that is written out in it."""
 
-    def __init__(self, number: int, function: Function, given: Given, source: Source, tail: bool, caller_keys: set[Key]):
-        self.number, self.function, self.given, self.tail, self.caller_keys = number, function, given, tail, caller_keys
+    def __init__(self, number: int, function: Function, given: Given, source: Source, caller_keys: set[Key]):
+        self.number, self.function, self.given, self.caller_keys = number, function, given, caller_keys
         self.first = function.parameter_count + 1  # the first local that is no parameter
         self.names = {local: name for local, name in enumerate(source.parameters, 1) if name != "self"}
         self.names |= {self.first + i: name for i, name in enumerate(source.bound) if name}
