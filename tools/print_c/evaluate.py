@@ -145,9 +145,7 @@ class Body(Choices):
     def write_out(self, frame: Frame, s: Statement, path: str, given: Given, args: list[Value], leaf: Leaf,
                   tail: bool) -> list[Leaf]:
         """Evaluates the called function here."""
-        keys = {(frame.number, local) for local in s.after} | frame.caller_keys
-        inner = self.frame(path, given, keys)
-        leaf.env = {key: value for key, value in leaf.env.items() if key in keys}
+        inner = self.frame(path, given, self.prune(frame, s, leaf))
         for local, (arg, operand) in enumerate(zip(args, s.operands), 1):
             here = frame.name(operand.local) if isinstance(operand, Place) and not operand.steps else ""
             if here and path in forms.CUTS:
@@ -160,8 +158,7 @@ class Body(Choices):
             if own.target != RETURN:
                 raise Unknown(f"{path}: it ends without a return")
             own.target = END
-            value = own.env.get(result, UNIT)
-            self.assign(frame, s, value, own)
+            self.assign(frame, s, own.env.get(result, UNIT), own)
         return out
 
     def call_printed(self, frame: Frame, s: Statement, printed: Printed, args: list[Value], leaf: Leaf) -> Value:

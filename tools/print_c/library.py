@@ -262,14 +262,14 @@ def requirements(text: str) -> list[str]:
 def name_all(nodes: list[Node], taken: set[str]) -> None:
     """Gives each variable a name that nothing around it has."""
     for node in nodes:
-        counter = node.counter if isinstance(node, While) else None
-        inner = set(taken)
-        for own in [node] if isinstance(node, Declare) else [counter] if counter else []:
+        own = node if isinstance(node, Declare) else node.counter if isinstance(node, While) else None
+        inner = taken if isinstance(node, Declare) else set(taken)
+        if own:
             base = own.variable.name or "x"
             if base in taken and isinstance(own.variable.type, Pointer):
                 base += "_bytes"
-            name = next(name for count in range(1, 99) if (name := f"{base}{count if count > 1 else ''}") not in taken)
-            own.variable.name = name
-            (inner if counter else taken).add(name)
+            names = (f"{base}{count if count > 1 else ''}" for count in range(1, 99))
+            own.variable.name = next(name for name in names if name not in taken)
+            inner.add(own.variable.name)
         for each in lists_of(node):
-            name_all(each, inner | taken)
+            name_all(each, set(inner))

@@ -304,10 +304,11 @@ class Memory:
         else:
             self.store_at(where, value, leaf)
 
-    def prune(self, frame: Frame, s: Statement, leaf: Leaf) -> None:
-        """Forgets locals that are not read any more."""
+    def prune(self, frame: Frame, s: Statement, leaf: Leaf) -> set[Key]:
+        """Forgets all locals but those that are still read, which it returns."""
         keep = {(frame.number, local) for local in s.after} | frame.caller_keys
         leaf.env = {key: value for key, value in leaf.env.items() if key in keep}
+        return keep
 
     def define(self, frame: Frame, local: int, value: Value, leaf: Leaf, reads: int) -> None:
         """Gives a local its value: as a variable of C, if it has a name or is read several times."""

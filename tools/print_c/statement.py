@@ -91,7 +91,7 @@ def change(node: Node, new: Callable[[Expression], Expression]) -> None:
         node.value = list(map(new, node.value))
     elif isinstance(node, (Declare, Set, Give)) and node.value is not None:
         node.value = new(node.value)
-    if isinstance(node, Set) and node.place.word != "variable":
+    if isinstance(node, Set):
         node.place = node.place.changed(new)
     elif isinstance(node, Do):
         node.call = new(node.call)
@@ -106,9 +106,8 @@ def expressions_of(node: Node) -> list[Expression]:
 
 
 def ends(nodes: list[Node]) -> bool:
-    """Whether nothing after these is reached."""
-    last = nodes[-1] if nodes else None
-    return isinstance(last, (Give, Break)) or isinstance(last, When) and ends(last.yes) and ends(last.no)
+    """Whether nothing after these is reached. If both arms end, tidy has put the second one after the first."""
+    return bool(nodes) and isinstance(nodes[-1], (Give, Break))
 
 
 def reads_of(nodes: list[Node]) -> dict[Variable, int]:
@@ -193,7 +192,7 @@ def tidy(nodes: list[Node], is_last: bool = True) -> list[Node]:
     """Arms that leave take what follows out of the other arm; loops get their conditions and counters."""
     out: list[Node] = []
     nodes = list(nodes)
-    while nodes and not ends(out):
+    while nodes:
         node = nodes.pop(0)
         if isinstance(node, When):
             node = arranged(node, is_last and not nodes)
