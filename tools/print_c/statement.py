@@ -1,6 +1,7 @@
 """Statements of C, and how they become shorter."""
 from __future__ import annotations
 
+from collections import Counter
 from dataclasses import dataclass
 from typing import Callable, Iterable, Iterator
 
@@ -110,15 +111,10 @@ def ends(nodes: list[Node]) -> bool:
     return bool(nodes) and isinstance(nodes[-1], (Give, Break))
 
 
-def reads_of(nodes: list[Node]) -> dict[Variable, int]:
+def reads_of(nodes: list[Node]) -> Counter[Variable]:
     """How often variables are read."""
-    reads: dict[Variable, int] = {}
-    for node in all_nodes(nodes):
-        for e in expressions_of(node):
-            for part in e.parts():
-                if part.word == "variable":
-                    reads[part.args[0]] = reads.get(part.args[0], 0) + 1
-    return reads
+    parts = (part for node in all_nodes(nodes) for e in expressions_of(node) for part in e.parts())
+    return Counter(part.args[0] for part in parts if part.word == "variable")
 
 
 def must_be_declared(nodes: list[Node], known: Iterable[Variable]) -> None:
@@ -171,7 +167,7 @@ def inline_once(nodes: list[Node]) -> list[Node]:
     def inlined(node: Node, following: Node | None) -> list[Node]:
         if isinstance(node, Declare) and isinstance(node.value, Expression) and following is not None:
             own, read = node.variable, [part for e in expressions_of(following) for part in e.parts()]
-            is_once = own.is_temporary and not own.is_set and reads.get(own, 0) == 1 and variable(own) in read
+            is_once = own.is_temporary and not own.is_set and reads[own] == 1 and variable(own) in read
             if is_once or isinstance(following, Give) and following.value == variable(own):
                 change(following, lambda e: e.replaced(variable(own), node.value))
                 return []
