@@ -4,7 +4,7 @@ from __future__ import annotations
 import re
 from typing import Callable
 
-from expression import (BOOL, NUMBERS, READS, VOID, CType, Expression, Pointer, Struct, at, call, convert, negate, number,
+from expression import (BOOL, NUMBERS, READS, VOID, Expression, Pointer, Struct, at, call, convert, negate, number,
                         operation, value_of)
 from mir import BOOL as FLAG
 from mir import BYTE, UNIT, WIDTHS, WORD, Statement, Type, Unknown, word_of
@@ -39,6 +39,10 @@ STATUSES = {1: "1", 0: "SKETCH_OK", 2 ** 32 - 1: "SKETCH_ERROR_LENGTH", 2 ** 32 
 PAIR = Struct("struct skh_pair", 0, (("first", NUMBERS[64]), ("second", NUMBERS[64])))
 OPTION = Struct("struct skh_option", 0, (("is_some", BOOL), ("value", NUMBERS[64])))
 RESULT = Struct("struct skh_result", 0, (("is_error", BOOL), ("value", NUMBERS[64])))
+# What functions return that is no number: two of them, one or none, one or the number of an error.
+RESULTS = {UNIT: VOID, FLAG: BOOL, Type("Named", ("(,)", (WORD, WORD))): PAIR,
+           Type("Named", ("core::option::Option", (WORD,))): OPTION,
+           **{Type("Named", ("core::result::Result", (value, WORD))): RESULT for value in (WORD, UNIT)}}
 
 
 class NoForm(Unknown):
@@ -66,23 +70,6 @@ def pointer_to(type: Type, is_const: bool, is_slice: bool, struct: Callable[[Typ
     if type.word == "Named":
         return Pointer(struct(type).text, 0, 0, is_const)
     raise NoForm(type)
-
-
-def result_of(type: Type, struct: Callable[[Type], Struct]) -> CType:
-    """What a function returns: a number, two, one or none, one or the number of an error."""
-    if type.bits:
-        return NUMBERS[type.bits]
-    if type.word != "Named":
-        if type not in (UNIT, FLAG):
-            raise NoForm(type)
-        return VOID if type == UNIT else BOOL
-    if type.args == ("(,)", (WORD, WORD)):
-        return PAIR
-    if type.args == ("core::option::Option", (WORD,)):
-        return OPTION
-    if type.args in (("core::result::Result", (WORD, WORD)), ("core::result::Result", (UNIT, WORD))):
-        return RESULT
-    return struct(type)
 
 
 # ---- Operations

@@ -105,7 +105,8 @@ class Library:
             raise Unknown(f"{path}: {len(types)} parameters, and {len(source.parameters)} in its text")
         try:
             given = list(map(self.parameter, types, source.parameters))
-            result = forms.result_of(args.type(function.locals[0]), self.struct)
+            of = args.type(function.locals[0])
+            result = NUMBERS[of.bits] if of.bits else forms.RESULTS.get(of) or self.struct(of)
         except forms.NoForm:
             return None
         prefix, title = forms.part_of(path)

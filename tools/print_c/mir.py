@@ -96,23 +96,6 @@ def read_type(token: Any) -> Type:
     raise Unknown(f"type {word} {str(of)[:80]}")
 
 
-class Dict(NamedTuple):
-    """An implementation of a trait, as an argument: one of a crate, or by its index one that the caller was given."""
-
-    name: str | int
-    types: tuple[Type, ...] = ()
-    dicts: tuple[Dict, ...] = ()
-
-
-def read_dict(token: Any) -> Dict:
-    word, of = word_of(token)
-    if word == "Impl":
-        return Dict(of[0], read_all(read_type, of[1]), read_all(read_dict, of[2]))
-    if word == "Given" and isinstance(of, int):
-        return Dict(of)
-    raise Unknown(f"an implementation as {word}")
-
-
 class Given(NamedTuple):
     """The arguments of an instance of a generic function."""
 
@@ -128,13 +111,31 @@ class Given(NamedTuple):
         return self.types[own.args[0]] if own.word == "Param" else Type(own.word, self.type(own.args))
 
     def dict(self, own: Dict) -> Dict:
-        if isinstance(own.name, int):
-            return self.dicts[own.name]
-        return Dict(own.name, self.type(own.types), tuple(map(self.dict, own.dicts)))
+        return self.dicts[own.name] if isinstance(own.name, int) else Dict(own.name, self.inside(own.given))
 
     def inside(self, of: Given) -> Given:
         """The arguments of a call inside of this instance."""
         return Given(self.type(of.types), tuple(map(self.dict, of.dicts)))
+
+
+class Dict(NamedTuple):
+    """An implementation of a trait, as an argument: one of a crate, or by its index one that the caller was given."""
+
+    name: str | int
+    given: Given = Given()
+
+
+def read_given(types: list[Any], dicts: list[Any]) -> Given:
+    return Given(tuple(map(read_type, types)), tuple(map(read_dict, dicts)))
+
+
+def read_dict(token: Any) -> Dict:
+    word, of = word_of(token)
+    if word == "Impl":
+        return Dict(of[0], read_given(of[1], of[2]))
+    if word == "Given" and isinstance(of, int):
+        return Dict(of)
+    raise Unknown(f"an implementation as {word}")
 
 
 class Step(NamedTuple):
@@ -222,7 +223,7 @@ def read_assign(place: Place, token: Any) -> Statement:
 
 def read_callee(token: Any) -> tuple[Any, Given]:
     word, of = word_of(token)
-    given = Given(read_all(read_type, of[-1]["types"]), read_all(read_dict, of[-1]["dicts"]))
+    given = read_given(of[-1]["types"], of[-1]["dicts"])
     if word == "Fn":
         return of[0], given
     if word == "Method":
@@ -307,7 +308,7 @@ class Crates:
         own = given.dict(callee[0])
         if (own.name, callee[1]) not in self.methods:
             raise Unknown(f"method {callee[1]} of {own.name}")
-        return self.methods[own.name, callee[1]], Given(own.types + more.types, own.dicts + more.dicts)
+        return self.methods[own.name, callee[1]], Given(own.given.types + more.types, own.given.dicts + more.dicts)
 
     def shape(self, type: Type) -> tuple[str, Sequence[Any]]:
         """Fields and their types, or Variants and the types of the fields of each."""
