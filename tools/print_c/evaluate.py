@@ -14,7 +14,7 @@ from frames import Frame
 from memory import Again
 from mir import Given, Operand, Place, Statement, Unknown, number_of
 from statement import Do, Give, Node
-from values import (END, RETURN, UNIT, Bytes, Choice, InMemory, Key, Leaf, Parts, Spelled, ToLocal, Value, expression_of,
+from values import (END, RETURN, UNIT, Bytes, Choice, InMemory, Key, Leaf, Parts, ToLocal, Value, expression_of,
                     parts_of)
 
 if TYPE_CHECKING:
@@ -115,14 +115,8 @@ class Body(Choices):
     def call(self, frame: Frame, s: Statement, leaf: Leaf, tail: bool) -> list[Leaf]:
         path, given = self.crates.resolve(s, frame.given)
         args, value = [self.operand(frame, own, leaf) for own in s.operands], UNIT
-        if path in forms.NUMBER_CALLS:
-            value = forms.NUMBER_CALLS[path](*map(expression_of, args))
-        elif path in forms.FROM_BYTES:
-            if not isinstance(args[0], Bytes):
-                raise Unknown(f"{self.path}: a number of {args[0]}")
-            value = forms.load(args[0].pointer, forms.FROM_BYTES[path])
-        elif path in forms.TO_BYTES:
-            value = Spelled(expression_of(args[0]))
+        if path in forms.CALLS:
+            value = forms.CALLS[path](*args)
         elif path == forms.COPY:
             self.copy_slice(parts_of(args[0]), parts_of(args[1]), leaf)
         elif not path.endswith("Destruct++none::drop"):

@@ -2,13 +2,14 @@
 from __future__ import annotations
 
 import re
+from functools import partial
 from typing import Callable
 
 from expression import (BOOL, NUMBERS, READS, VOID, Expression, Pointer, Struct, at, call, convert, negate, number,
                         operation, value_of)
 from mir import BOOL as FLAG
 from mir import BYTE, UNIT, WIDTHS, WORD, Statement, Type, Unknown, word_of
-from values import Parts, Value, parts_of
+from values import Bytes, Parts, Spelled, Value, expression_of, parts_of
 
 # Structs of the source that are structs of C. A function with any other in its signature is written out where it is called.
 STRUCTS = {
@@ -143,24 +144,30 @@ def load(pointer: Expression, bits: int) -> Expression:
     return call(f"skh_load{bits}", NUMBERS[bits], [pointer], READS)
 
 
-def rotate_left(word: Expression, places: Expression) -> Expression:
-    return call("skh_rotate64", NUMBERS[64], [word, convert(places, 64)])
+def from_bytes(bits: int, value: Value) -> Expression:
+    if not isinstance(value, Bytes):
+        raise Unknown(f"a number of {value}")
+    return load(value.pointer, bits)
 
 
-def rotate_right(word: Expression, places: Expression) -> Expression:
+def of_two(name: str, a: Value, b: Value) -> Expression:
+    return call(name, NUMBERS[64], [expression_of(a), convert(expression_of(b), 64)])
+
+
+def rotate_right(word: Value, places: Value) -> Expression:
     if value_of(places) is None:
         raise Unknown("rotate_right by an unknown number")
-    return rotate_left(word, number(64 - places.args[0], 64))
+    return of_two("skh_rotate64", word, number(64 - value_of(places), 64))
 
 
-NUMBER_CALLS: dict[str, Callable[..., Expression]] = {
-    "core::int::u64::rotate_left": rotate_left,
+CALLS: dict[str, Callable[..., Value]] = {
+    "core::int::u64::rotate_left": partial(of_two, "skh_rotate64"),
     "core::int::usize::rotate_right": rotate_right,
-    "core::int::usize::min": lambda a, b: call("skh_least64", NUMBERS[64], [a, b]),
-    "core::int::usize::saturating_sub": lambda a, b: call("skh_less64", NUMBERS[64], [a, b]),
+    "core::int::usize::min": partial(of_two, "skh_least64"),
+    "core::int::usize::saturating_sub": partial(of_two, "skh_less64"),
+    **{f"core::int::u{bits}::from_le_bytes": partial(from_bytes, bits) for bits in (16, 32, 64, 128)},
+    **{f"core::int::u{bits}::to_le_bytes": lambda value: Spelled(expression_of(value)) for bits in (64, 128)},
 }
-FROM_BYTES = {f"core::int::u{bits}::from_le_bytes": bits for bits in (16, 32, 64, 128)}
-TO_BYTES = {f"core::int::u{bits}::to_le_bytes" for bits in (64, 128)}
 # These cut a slice into pieces, which keeps the name that the caller has for it.
 CUTS = ("core::simd::chunks::slice+T::as_chunks", "sketch_hash::hash::words::split_pieces")
 COPY = "core::slice::edits::slice+T::copy_from_slice"

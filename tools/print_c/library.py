@@ -178,17 +178,17 @@ class Library:
                     printed.calls[part.args[0]] = None
         return printed
 
-    def expected(self, node: When) -> bool | None:
+    def expected(self, node: When) -> str:
         """Errors are not expected, nor is a separate function where there is one that is not."""
         def called(nodes: list[Node]) -> str:
             return nodes[0].call.args[0] if len(nodes) == 1 and isinstance(nodes[0], Do) else ""
 
         last = node.yes[-1]
         if isinstance(last, Give) and last.value is not None and last.value.args[0] == "skh_error":
-            return False
+            return "SKH_UNLIKELY"
         other = called(node.no)
         is_separate = other in self.by_name and "NOINLINE" in self.by_name[other].storage
-        return True if called(node.yes) and (is_separate or len(node.no) > 2) else None
+        return "SKH_LIKELY" if called(node.yes) and (is_separate or len(node.no) > 2) else ""
 
     # ---- Text
 

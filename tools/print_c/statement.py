@@ -40,7 +40,7 @@ class When(Node):
     condition: Expression
     yes: list[Node]
     no: list[Node]
-    expected: bool | None = None
+    expected: str = ""  # the macro that says so
 
 
 @dataclass(eq=False)

@@ -208,10 +208,7 @@ class Writer:
             raise Unknown(f"statement {node}")
 
     def condition(self, node: When) -> str:
-        text = self.text(node.condition)
-        if node.expected is None:
-            return text
-        return f"{'SKH_LIKELY' if node.expected else 'SKH_UNLIKELY'}({text})"
+        return f"{node.expected}({self.text(node.condition)})" if node.expected else self.text(node.condition)
 
     def assigned(self, e: Expression, type: CType) -> str:
         """A value in a place of a type: where C would cut it, it is cut by a cast."""
