@@ -14,8 +14,7 @@ from frames import Frame
 from memory import Again
 from mir import Given, Operand, Place, Statement, Unknown, number_of
 from statement import Do, Give, Node
-from values import (END, RETURN, UNIT, Bytes, Choice, InMemory, Key, Leaf, Parts, ToLocal, Value, expression_of,
-                    parts_of)
+from values import END, RETURN, UNIT, Bytes, Choice, InMemory, Key, Leaf, Parts, ToLocal, Value, expression_of, parts_of
 
 if TYPE_CHECKING:
     from library import Printed
@@ -168,7 +167,7 @@ class Body(Choices):
             return UNIT
         if printed.effect == CHANGES or printed.result in (forms.PAIR, forms.OPTION, forms.RESULT):
             self.prune(frame, s, leaf)
-            e = self.variable_for(e, frame.name(s.place.local) or forms.local_name(printed.result.text), leaf, True)
+            e = self.variable_for(e, frame.name(s.place.local), leaf, True)
         return Parts(tuple(self.part(e, (at,)) for at in (0, 1))) if printed.result == forms.PAIR else e
 
     # ---- Results

@@ -120,21 +120,20 @@ class Memory:
 
     # ---- Variables
 
-    def set(self, leaf: Leaf, place: Expression, value: Expression) -> None:
-        own = place.args[0]
+    def set(self, leaf: Leaf, own: Variable, value: Expression) -> None:
         own.is_set = True
-        leaf.code.append(Set(place, value))
+        leaf.code.append(Set(variable(own), value))
         leaf.forget(lambda fact: own in fact.variables())
         leaf.pointers = {e: held for e, held in leaf.pointers.items() if own not in held.variables() | e.variables()}
 
     def variable_for(self, e: Expression, name: str, leaf: Leaf, may_reuse: bool = False) -> Expression:
         """A variable with this value: a new one, or one of this name that nothing reads any more."""
-        old = leaf.scope.get(name) if may_reuse else None
-        if old and old.type == e.type and not old.is_in_memory and old not in leaf.variables():
-            self.set(leaf, variable(old), e)
-            return variable(old)
         if not name and isinstance(e.type, Struct):
             name = forms.local_name(e.type.text)
+        old = leaf.scope.get(name) if may_reuse else None
+        if old and old.type == e.type and not old.is_in_memory and old not in leaf.variables():
+            self.set(leaf, old, e)
+            return variable(old)
         own = Variable(name, e.type, is_temporary=not may_reuse)
         leaf.code.append(Declare(own, e))
         leaf.scope[name] = own
@@ -155,7 +154,7 @@ class Memory:
         while waiting:
             free = [own for own in waiting if not any(own in e.variables() for other, e in waiting.items() if other is not own)]
             if free:
-                self.set(leaf, variable(free[0]), waiting.pop(free[0]))
+                self.set(leaf, free[0], waiting.pop(free[0]))
                 continue
             own = next(iter(waiting))
             old = self.variable_for(variable(own), own.name, leaf)

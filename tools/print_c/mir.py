@@ -4,8 +4,6 @@ The docs of the classes say what each word of the format is taken to mean. Any o
 """
 from __future__ import annotations
 
-import json
-import pathlib
 from dataclasses import dataclass, field
 from functools import cache
 from typing import Any, Iterator, NamedTuple, Sequence
@@ -319,7 +317,3 @@ class Crates:
             raise Unknown(f"{type.name} has {word}")
         fields = [given.type(read_all(read_type, each)) for each in (of if word == "Variants" else [of])]
         return word, fields if word == "Variants" else fields[0]
-
-
-def read_crates(folders: list[pathlib.Path]) -> Crates:
-    return Crates([own for folder in folders for own in json.loads((folder / "toolchain/mir.json").read_text())])
