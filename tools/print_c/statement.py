@@ -189,11 +189,10 @@ def tidy(nodes: list[Node], is_last: bool = True) -> list[Node]:
     out: list[Node] = []
     nodes = list(nodes)
     while nodes:
-        node = nodes.pop(0)
+        node, before = nodes.pop(0), out[-1] if out else None
         if isinstance(node, When):
             node = arranged(node, is_last and not nodes)
-            before = out[-1] if out else None
-            if isinstance(before, When) and not before.no and not node.no and gives(before.yes) == gives(node.yes) != []:
+            if isinstance(before, When) and not node.no and gives(before.yes) == gives(node.yes) != []:
                 before.condition = Expression("||", node.condition.type, (before.condition, node.condition))
                 continue
             if ends(node.yes):
@@ -201,12 +200,10 @@ def tidy(nodes: list[Node], is_last: bool = True) -> list[Node]:
         elif isinstance(node, While) and node.condition is None:
             node = loop(While(None, tidy(node.body, False)))
             step = node.body[-1] if node.body and node.condition is not None else None
-            if isinstance(step, Set) and is_count(step):
-                first = next((own for own in out if isinstance(own, Declare) and step.place == variable(own.variable)), None)
-                is_same = first and (first is out[-1] or value_of(first.value) is not None)  # its value, if it comes later
-                if is_same and first.variable not in reads_of(out[out.index(first) + 1:] + nodes):
-                    out.remove(first)
-                    node = While(node.condition, node.body[:-1], first)
+            if isinstance(step, Set) and is_count(step) and isinstance(before, Declare) \
+                    and step.place == variable(before.variable) and before.variable not in reads_of(nodes):
+                out.pop()
+                node = While(node.condition, node.body[:-1], before)
         out.append(node)
     if is_last and out and isinstance(out[-1], Give) and out[-1].value is None:
         out.pop()
