@@ -42,13 +42,10 @@ class Choices(Memory):
 
     def when(self, frame: Frame, arms: list[Arm], value: Value, leaf: Leaf, tail: bool) -> list[Leaf]:
         values, arm = arms[0]
-        if len(arms) == 1:
+        known = {test: leaf.known(test) for test in (has_value(expression_of(value), own) for own in values)}
+        if len(arms) == 1 or True in known.values():
             return self.run(frame, arm, leaf, tail)
-        tests = [has_value(expression_of(value), own) for own in values]
-        known = [leaf.known(test) for test in tests]
-        if True in known:
-            return self.run(frame, arm, leaf, tail)
-        open_tests = [test for test, holds in zip(tests, known) if holds is None]
+        open_tests = [test for test, holds in known.items() if holds is None]
         if not open_tests:
             return self.when(frame, arms[1:], value, leaf, tail)
         condition = open_tests[0]

@@ -213,10 +213,6 @@ def at(base: Expression, offset: Expression) -> Expression:
     return base if value_of(offset) == 0 else Expression("at", base.type, (base, offset))
 
 
-def base_and_offset(pointer: Expression) -> tuple[Expression, Expression]:
-    return pointer.args if pointer.word == "at" else (pointer, number(0, 64))
-
-
 def divide(offset: Expression, size: int) -> Expression:
     """An offset in bytes, which is a multiple of the size of an element, as a number of elements."""
     value, factor = value_of(offset), value_of(offset.args[1]) if offset.word == "*" else None

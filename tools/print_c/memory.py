@@ -10,7 +10,7 @@ from frames import Frame
 from mir import BYTE, WORD, Given, Place, Statement, Type, Unknown
 from statement import Declare, Do, Set
 from values import (Bytes, Choice, InMemory, Key, Leaf, Parts, Path, Spelled, ToLocal, Undefined, Value, changed,
-                    expression_of, is_free, is_step, leaves, parts_of, put, weight)
+                    expression_of, is_free, is_step, leaves, parts_of, weight)
 
 if TYPE_CHECKING:
     from library import Library
@@ -299,7 +299,7 @@ class Memory:
         where = self.locate(frame, s.place, leaf)
         self.prune(frame, s, leaf)
         if where.pointer is None:
-            leaf.env[where.key] = put(leaf.env[where.key], where.path, value)
+            leaf.put(where.key, where.path, value)
         else:
             self.store_at(where, value, leaf)
 

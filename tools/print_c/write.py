@@ -8,7 +8,7 @@ from __future__ import annotations
 import textwrap
 from typing import Iterator
 
-from expression import BOOL, INT, SIZE, CType, Expression, Pointer, base_and_offset, convert, divide, number, value_of
+from expression import BOOL, INT, SIZE, CType, Expression, Pointer, convert, divide, number, value_of
 from forms import STATUSES
 from mir import Unknown
 from statement import Break, Comment, Declare, Do, Give, Node, Set, When, While
@@ -98,7 +98,7 @@ class Writer:
         return f"{self.text(base, LEVELS['+'])} + {self.text(offset, LEVELS['+'] + 1)}", LEVELS["+"]
 
     def element(self, pointer: Expression) -> tuple[str, int]:
-        base, offset = base_and_offset(pointer)
+        base, offset = pointer.args if pointer.word == "at" else (pointer, number(0, 64))
         size = pointer.type.size // (pointer.type.inner or 1)
         if pointer.type.is_column:
             return self.column(COLUMN_READS, size, pointer), POSTFIX
