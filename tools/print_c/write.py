@@ -102,7 +102,7 @@ class Writer:
         size = pointer.type.size // (pointer.type.inner or 1)
         if pointer.type.is_column:
             return self.column(COLUMN_READS, size, pointer), POSTFIX
-        if value_of(offset) == 0 and not pointer.type.is_array and base.word != "member" and size > 1:
+        if value_of(offset) == 0 and not pointer.type.is_array and size > 1:
             return f"*{self.text(base, UNARY)}", UNARY
         return f"{self.text(base, POSTFIX)}[{self.text(divide(offset, size))}]", POSTFIX
 
