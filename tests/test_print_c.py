@@ -397,7 +397,7 @@ REFUSED = {  # a function, and the words by which it is refused
     "a tag that is not known": (of_two(put(3, "Aggregate", L[1], L[2]), types=[INT[8], W], locals=[OPTION]), "unknown tag"),
     "a field of an enum": (of_two(
         called(3, PATH + "option_by", L[1], L[2]), put(place(3, (1,), 1), "Opd", number(7)), put(0, "Opd", L[3]), result=OPTION,
-        locals=[OPTION]), "the parts of Choice"),
+        locals=[OPTION]), "the parts of .*struct skh_option"),
     "what was not set": (of_two(op(0, "WrapAdd", L[3], L[1]), locals=[W]), "Undefined"),
     "a loop to two places": (of_two(
         BLOCK + seq(LOOP + seq(op(3, "Eq", L[1], L[2]), when(L[3], exit_of(1)), op(4, LT, L[1], L[2]), when(L[4], exit_of(0)),

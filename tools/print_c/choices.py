@@ -1,15 +1,15 @@
 """Conditions, where ways part and meet, and loops."""
 from __future__ import annotations
 
-from expression import BOOL, Expression, Variable, choose, has_value, value_of, variable
+from expression import BOOL, Expression, Variable, choose, has_value, negate, value_of, variable
 from frames import Frame
 from memory import Memory
 from mir import Statement, Unknown
 from statement import Break, Comment, Declare, Node, When, While, all_nodes
-from values import END, Key, Leaf, Parts, Path, Undefined, Value, differences, expression_of
+from values import END, Key, Leaf, Parts, Path, Undefined, Value, common, differences, expression_of, is_free
 
 Arm = tuple[list[int], list[Statement]]  # the values that lead to it, and what it does
-Merges = list[tuple[Variable, Key, list[Expression]]]  # a new variable, the local that it is for, and its value on each way
+Merges = list[tuple[Variable, list[Expression]]]  # a new variable, and its value on each way
 
 
 class Choices(Memory):
@@ -17,16 +17,14 @@ class Choices(Memory):
         """The leaves after these statements. `tail`: whether what follows them only returns a value."""
         out: list[Leaf] = []
         for i, s in enumerate(statements):
-            only_returns = self.only_returns(frame, statements[i + 1:], tail)
+            only_returns = tail and all(own.word in ("Opd", "Aggregate", "Return") for own in statements[i + 1:])
             if id(s) in frame.comments:
                 leaf.code.append(Comment(frame.comments[id(s)]))
             code, came = leaf.code, self.step(frame, s, leaf, only_returns)
             going = [own for own in came if own.target == END]
             out += [own for own in came if own.target != END]
-            for own in going:
-                self.prune(frame, s, own)
             if len(going) > 1 and i + 1 < len(statements):
-                one = None if len(going) < len(came) or only_returns else self.join(frame, going, code)
+                one = None if len(going) < len(came) or only_returns else self.join(going, code)
                 if one is None:
                     return out + [end for own in going for end in self.run(frame, statements[i + 1:], own, tail)]
                 going = [one]
@@ -34,14 +32,6 @@ class Choices(Memory):
                 return out + going
             leaf = going[0]
         return out + [leaf]
-
-    def only_returns(self, frame: Frame, statements: list[Statement], tail: bool) -> bool:
-        for s in statements:
-            if s.word == "Return":
-                return frame.tail
-            if s.word not in ("Opd", "Aggregate") or s.place.steps:
-                return False
-        return tail
 
     @staticmethod
     def left(leaf: Leaf) -> Leaf:
@@ -52,13 +42,10 @@ class Choices(Memory):
 
     def when(self, frame: Frame, arms: list[Arm], value: Value, leaf: Leaf, tail: bool) -> list[Leaf]:
         values, arm = arms[0]
-        if len(arms) == 1:
+        known = {test: leaf.known(test) for test in (has_value(expression_of(value), own) for own in values)}
+        if len(arms) == 1 or True in known.values():
             return self.run(frame, arm, leaf, tail)
-        tests = [has_value(expression_of(value), own) for own in values]
-        known = [leaf.known(test) for test in tests]
-        if True in known:
-            return self.run(frame, arm, leaf, tail)
-        open_tests = [test for test, holds in zip(tests, known) if holds is None]
+        open_tests = [test for test, holds in known.items() if holds is None]
         if not open_tests:
             return self.when(frame, arms[1:], value, leaf, tail)
         condition = open_tests[0]
@@ -66,34 +53,30 @@ class Choices(Memory):
             condition = Expression("||", BOOL, (condition, test))
         node = When(condition, [], [])
         leaf.code.append(node)
-        yes = self.run(frame, arm, leaf.branch(condition, True, node.yes), tail)
-        return yes + self.when(frame, arms[1:], value, leaf.branch(condition, False, node.no), tail)
+        yes = self.run(frame, arm, leaf.branch(condition, node.yes), tail)
+        return yes + self.when(frame, arms[1:], value, leaf.branch(negate(condition), node.no), tail)
 
     # ---- Ways that meet
 
-    def join(self, frame: Frame, going: list[Leaf], code: list[Node]) -> Leaf | None:
+    def join(self, going: list[Leaf], code: list[Node]) -> Leaf | None:
         """One leaf after all of these, or None if what they know is better kept apart."""
         first, merges, env = going[0], [], {}
         for key in set.intersection(*(set(own.env) for own in going)):
-            values = [own.env[key] for own in going]
-            defined = [value for value in values if not isinstance(value, Undefined)]
-            merged = self.merged(defined if len(defined) == 1 else values, merges, key)
-            if merged is None:
+            env[key] = self.merged([own.env[key] for own in going], merges, key)
+            if env[key] is None:
                 return None
-            env[key] = merged
         leaf = first.at(code, env)
-        leaf.scope = {name: own for name, own in first.scope.items() if all(other.scope.get(name) is own for other in going)}
-        leaf.facts = {fact: holds for fact, holds in first.facts.items() if all(own.facts.get(fact) == holds for own in going)}
-        leaf.owned = {key: own for key, own in leaf.owned.items() if all(other.owned.get(key) == own for other in going)}
-        leaf.pointers = [own for own in leaf.pointers if all(own in other.pointers for other in going)]
+        leaf.scope = common([own.scope for own in going])
+        leaf.owned = common([own.owned for own in going])
+        leaf.pointers = common([own.pointers for own in going])
+        leaf.facts = frozenset.intersection(*(own.facts for own in going))
         node = code[-1]
         if isinstance(node, When) and not node.yes and not node.no and len(going) == 2 and len(merges) == 1:
-            place, _, (yes, no) = merges[0]
+            place, (yes, no) = merges[0]
             if "?" not in (yes.word, no.word) and first.code is node.yes:
-                code.pop()
                 leaf.change(lambda e: e.replaced(variable(place), choose(node.condition, yes, no)))
                 return leaf
-        self.settle(frame, merges, going, leaf, code)
+        self.settle(merges, going, leaf, code)
         return leaf
 
     def merged(self, values: list[Value], merges: Merges, key: Key) -> Value | None:
@@ -103,32 +86,27 @@ class Choices(Memory):
         if all(isinstance(value, Expression) for value in values):
             if any(value.type != first.type for value in values):
                 raise Unknown(f"{self.path}: values of different types meet: {[value.type.text for value in values]}")
-            merges.append((Variable("", first.type), key, values))
+            merges.append((Variable(self.frames[key[0] - 1].name(key[1]), first.type), values))
             return variable(merges[-1][0])
         if all(isinstance(value, Parts) and len(value.parts) == len(first.parts) for value in values):
             parts = [self.merged([value.parts[i] for value in values], merges, key) for i in range(len(first.parts))]
             return None if None in parts else Parts(tuple(parts))
         return None
 
-    def settle(self, frame: Frame, merges: Merges, going: list[Leaf], leaf: Leaf, code: list[Node]) -> None:
+    def settle(self, merges: Merges, going: list[Leaf], leaf: Leaf, code: list[Node]) -> None:
         """Gives variables the values that each leaf comes with. One that holds it already, and nothing else, is taken."""
-        waiting: list[dict[Variable, Expression]] = [{} for _ in going]
-        for place, key, values in merges:
-            others = {used for e in leaf.expressions() if e != variable(place) for used in e.variables()}
-            taken = next((value.args[0] for value in values if value.word == "variable" and value.args[0] not in others
-                          and not value.args[0].is_in_memory and value.args[0].type == place.type), None)
-            if taken is None:
-                taken = place
-                place.name = frame.name(key[1]) if key[0] == frame.number else ""
+        taken_by: dict[Variable, list[Expression]] = {}
+        for place, values in merges:
+            used = leaf.variables()
+            taken = next((value.args[0] for value in values if is_free(value, used)), place)
+            if taken is place:
                 code.insert(len(code) - 1, Declare(place, None))
             taken.is_set = True
             leaf.change(lambda e: e.replaced(variable(place), variable(taken)))
-            for each, value in zip(waiting, values):
-                if value != variable(taken):
-                    each[taken] = value
-        for came, each in zip(going, waiting):
-            leaf.forget(lambda fact: bool(fact.variables() & set(each)))
-            self.set_all(each, came)
+            taken_by[taken] = values
+        leaf.forget(lambda fact: not fact.variables().isdisjoint(taken_by))
+        for i, came in enumerate(going):
+            self.set_all({own: values[i] for own, values in taken_by.items()}, came.at(came.code, {}))
 
     # ---- Loops
 
@@ -136,11 +114,9 @@ class Choices(Memory):
         carried: dict[tuple[Key, Path], Variable] = {}
         while True:
             head = leaf.at([])
-            head.facts, head.pointers = {}, []
+            head.facts, head.pointers = frozenset(), {}
             for (key, path), own in carried.items():
                 head.put(key, path, variable(own))
-                if key in head.owned:
-                    head.owned[key] = head.env[key]
             body: list[Node] = []
             came = self.run(frame, s.bodies[0], head.at(body), False)
             back = [own for own in came if own.target == END]
@@ -149,7 +125,7 @@ class Choices(Memory):
             if found <= set(carried):
                 break
             for key, path in sorted(found - set(carried)):
-                carried[key, path] = self.carry(frame, key, path, leaf)
+                carried[key, path] = self.carry(key, path, leaf)
         for (key, path), own in carried.items():
             value = self.part(leaf.env[key], path)
             if value != variable(own):
@@ -163,7 +139,7 @@ class Choices(Memory):
             return []
         if len({own.target for own in exits}) > 1:
             raise Unknown(f"{self.path}: a loop that is left to several places")
-        after = self.join(frame, exits, body) if len(exits) > 1 else exits[0]
+        after = self.join(exits, body) if len(exits) > 1 else exits[0]
         if after is None:
             raise Unknown(f"{self.path}: a loop that is left with values of different kinds")
         for own in exits:
@@ -172,28 +148,24 @@ class Choices(Memory):
         if inner:
             raise Unknown(f"{self.path}: a value of a loop that is used after it: {[own.name for own in inner]}")
         after = after.at(leaf.code)
-        after.facts, after.scope, after.pointers = {}, leaf.scope, []
+        after.facts, after.scope, after.pointers = frozenset(), leaf.scope, {}
         return [self.left(after)]
 
-    def carry(self, frame: Frame, key: Key, path: Path, leaf: Leaf) -> Variable:
+    def carry(self, key: Key, path: Path, leaf: Leaf) -> Variable:
         """The variable that holds a value from turn to turn: the one that it is in, if nothing else is."""
-        value = expression_of(self.part(leaf.env[key], path))
-        if value.word == "variable" and not value.args[0].is_in_memory:
-            rest = leaf.at([])
-            rest.put(key, path, Undefined())
-            if value.args[0] not in rest.variables():
-                return value.args[0]
-        name = frame.name(key[1]) if key[0] == frame.number else ""
+        value, rest = expression_of(self.part(leaf.env[key], path)), leaf.at([])
+        rest.put(key, path, Undefined())
+        if is_free(value, rest.variables()):
+            return value.args[0]
+        name = self.frames[key[0] - 1].name(key[1])
         return Variable(name or ("i" if value_of(value) == 0 else ""), value.type)
 
     def turn(self, leaf: Leaf, carried: dict[tuple[Key, Path], Variable]) -> None:
         """At the end of a turn the variables get their values for the next one."""
         here = {at: own for at, own in carried.items() if at[0] in leaf.env}
         waiting = {own: expression_of(self.part(leaf.env[key], path)) for (key, path), own in here.items()}
-        waiting = {own: e for own, e in waiting.items() if e != variable(own)}
         for key, path in here:
             leaf.put(key, path, Undefined())
-        self.make_way(set(waiting), leaf)
+        self.set_all(waiting, leaf)
         for (key, path), own in here.items():
             leaf.put(key, path, variable(own))
-        self.set_all(waiting, leaf)

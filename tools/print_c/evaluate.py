@@ -4,44 +4,35 @@ Functions of the standard library, closures, and functions whose types have no f
 """
 from __future__ import annotations
 
-from calls import Calls
-from expression import BOOL, NUMBERS, Expression, Variable, at, call, convert, negate, number, operation, value_of
+from typing import TYPE_CHECKING
+
+import forms
+import liveness
+from choices import Choices
+from expression import CHANGES, VOID, Expression, Struct, Variable, at, call, number, operation, value_of, variable
 from frames import Frame
 from memory import Again
-from mir import WIDTHS, Operand, Place, Statement, Type, Unknown, number_of, word_of
-from values import RETURN, UNIT, Choice, Leaf, Parts, ToLocal, Value, expression_of, parts_of
+from mir import Given, Operand, Place, Statement, Unknown, number_of
+from statement import Do, Give, Node
+from values import END, RETURN, UNIT, Bytes, Choice, InMemory, Key, Leaf, Parts, ToLocal, Value, expression_of, parts_of
 
-OPERATORS = {"WrapAdd": "+", "WrapSub": "-", "WrapMul": "*", "Add": "+", "Sub": "-", "Mul": "*", "Div": "/", "Rem": "%",
-             "Shl": "<<", "Shr": ">>", "And": "&", "Or": "|", "Xor": "^", "Eq": "==", "Ne": "!=", "Lt": "<", "Le": "<="}
-SIGNED = {"Add", "Sub", "Mul", "Div", "Rem", "Shr", "Lt", "Le"}  # which say whether their numbers have a sign
-
-# The operations on vectors, by the width of their lanes.
-LANES = {8: ("And", "Or", "Xor"), 32: ("And", "Or", "Xor", "Shl", "Shr", "WrapAdd", "WrapMul")}
+if TYPE_CHECKING:
+    from library import Printed
 
 
-def operator_of(token: object) -> str:
-    """The operator in C of an operation on numbers without a sign."""
-    word, sign = word_of(token)
-    if word not in OPERATORS or sign != ("Unsigned" if word in SIGNED else None):
-        raise Unknown(f"operation {token}")
-    return OPERATORS[word]
-
-
-class Body(Calls):
+class Body(Choices):
     """The statements of one function of C."""
 
-    def evaluate(self, parameters: list[tuple[Value, list[Variable]]]) -> None:
-        while True:
-            self.frames, self.code = [], []
-            root = self.frame(self.path, self.given, True, set())
-            env = {(root.number, local): value for local, (value, _) in enumerate(parameters, 1)}
-            leaf = Leaf(env, self.code, {own.name: own for _, each in parameters for own in each})
-            leaf.owned = {key: value for key, value in env.items() if root.sets.get(key[1])}
-            try:
-                self.run(root, root.function.body, leaf, True)
-                return
-            except Again:
-                pass
+    def evaluate(self, values: list[Value], parameters: list[Variable]) -> list[Node]:
+        self.frames = []
+        root = self.frame(self.path, self.given, set())
+        env = {(root.number, local): value for local, value in enumerate(values, 1)}
+        leaf = Leaf(env, [], {own.name: own for own in parameters}, owned=dict(env))
+        try:
+            self.run(root, root.function.body, leaf, True)
+        except Again:
+            return self.evaluate(values, parameters)
+        return leaf.code
 
     def step(self, frame: Frame, s: Statement, leaf: Leaf, tail: bool) -> list[Leaf]:
         if s.word == "Call":
@@ -57,7 +48,8 @@ class Body(Calls):
         elif s.word != "Return":
             self.assign(frame, s, self.right(frame, s, leaf), leaf)
         elif frame is self.frames[0]:
-            self.give(leaf.env.get((frame.number, 0), UNIT), leaf)
+            value = leaf.env.get((frame.number, 0), UNIT)
+            leaf.code.append(Give(None if self.result == VOID else self.given_value(value, leaf)))
             return []
         else:
             leaf.target = RETURN
@@ -71,7 +63,7 @@ class Body(Calls):
         if operand.word == "Int":
             return number(operand.of, operand.bits)
         type = frame.given.type(operand.of)
-        return number(number_of(type) if operand.word == "NumOf" else size_of(type), operand.bits)
+        return number(number_of(type) if operand.word == "NumOf" else forms.size_of(type), operand.bits)
 
     def right(self, frame: Frame, s: Statement, leaf: Leaf) -> Value:
         if s.word == "LendStatic":
@@ -86,17 +78,17 @@ class Body(Calls):
             if type.word == "Named" and self.crates.shape(type)[0] == "Variants":
                 if value_of(values[0]) is None:
                     raise Unknown(f"{self.path}: an enum with an unknown tag")
-                return Choice(values[0], ((values[0].args[0], tuple(values[1:])),))
+                return Choice(values[0].args[0], tuple(values[1:]))
             return Parts(tuple(values))
         if s.word == "Repeat":
             return Parts(tuple(values) * number_of(frame.given.type(s.of)))
         if s.word == "Op1":
-            return one(s.of, expression_of(values[0]))
+            return forms.one(s.of, expression_of(values[0]))
         if s.word == "Op2" and s.of == "Offset":
             return self.offset(values[0], expression_of(values[1]), leaf)
         if s.word == "Op2":
-            return operation(operator_of(s.of), *map(expression_of, values))
-        return vector(s, values, self.locate(frame, s.place, leaf).type)
+            return operation(forms.operator_of(s.of), *map(expression_of, values))
+        return forms.vector(s, values, self.locate(frame, s.place, leaf).type)
 
     def offset(self, base: Value, offset: Expression, leaf: Leaf) -> Value:
         """A pointer so many bytes after another."""
@@ -108,44 +100,91 @@ class Body(Calls):
             return ToLocal(base.key, (*base.path, value_of(offset) // size))
         return at(self.pointer(base, leaf), offset)
 
+    # ---- Calls
 
-def one(token: object, value: Expression) -> Expression:
-    word, of = word_of(token)
-    if word == "Not" and value.type == BOOL:
-        return negate(value)
-    if word == "Not" and value.type.bits in (8, 16, 32, 64):
-        all_bits = number(-1, value.type.bits)
-        return operation("^", value, all_bits) if value.word == "number" else Expression("~", value.type, (value,))
-    if word == "Cast" and of[0] == "Unsigned" and of[2] in WIDTHS and (of[1] == "Unsigned" or of[1:] == ["Signed", 32]):
-        return convert(value, of[2], of[1] == "Signed")
-    if word == "CountOnes" and value.type.bits == 32:
-        return call("skh_ones32", NUMBERS[32], [value])
-    raise Unknown(f"operation {token} of {value.type.text}")
+    def frame(self, path: str, given: Given, caller_keys: set[Key]) -> Frame:
+        if len(self.frames) > 2000:
+            raise Unknown(f"{self.path}: too many calls to be written out")
+        function = self.crates.function(path)
+        if not function.entry:
+            liveness.mark(function)
+        self.frames.append(Frame(len(self.frames) + 1, function, given, self.library.sources.of(path), caller_keys))
+        return self.frames[-1]
 
+    def call(self, frame: Frame, s: Statement, leaf: Leaf, tail: bool) -> list[Leaf]:
+        path, given = self.crates.resolve(s, frame.given)
+        args, value = [self.operand(frame, own, leaf) for own in s.operands], UNIT
+        if path in forms.CALLS:
+            value = forms.CALLS[path](*args)
+        elif path == forms.COPY:
+            self.copy_slice(parts_of(args[0]), parts_of(args[1]), leaf)
+        elif not path.endswith("Destruct++none::drop"):
+            printed = self.library.printed(path, given)
+            if printed is None:
+                return self.write_out(frame, s, path, given, args, leaf, tail)
+            value = self.call_printed(frame, s, printed, args, leaf)
+        self.assign(frame, s, value, leaf)
+        return [leaf]
 
-def vector(s: Statement, values: list[Value], type: Type) -> Value:
-    """Vectors are words of 32 bits, see Places.read."""
-    word, of = word_of(s.of)
-    if s.word == "Vec1" and word == "Recast":
-        return values[0]
-    if s.word == "Vec2" and word == "Map" and word_of(of)[0] in LANES.get(type.of.bits, ()):
-        return Parts(tuple(lane(operator_of(of), a, b) for a, b in zip(*map(parts_of, values), strict=True)))
-    if s.word == "Vec2" and word == "Fold" and of == "Or" and value_of(values[0]) == 0:
-        return Expression("any", NUMBERS[8], parts_of(values[1]))
-    raise Unknown(f"vector operation {s.of}")
+    def copy_slice(self, place: tuple[Value, ...], origin: tuple[Value, ...], leaf: Leaf) -> None:
+        to, count = place[0], value_of(place[1])
+        if count is None:
+            raise Unknown(f"{self.path}: a copy of unknown length")
+        if isinstance(to, ToLocal) and not isinstance(leaf.env.get(to.key), InMemory) and not to.path:
+            leaf.env[to.key] = Bytes(self.pointer(origin[0], leaf), count)
+        else:
+            self.do("memcpy", [self.pointer(to, leaf), self.pointer(origin[0], leaf), number(count, 64)], leaf)
 
+    def write_out(self, frame: Frame, s: Statement, path: str, given: Given, args: list[Value], leaf: Leaf,
+                  tail: bool) -> list[Leaf]:
+        """Evaluates the called function here."""
+        inner = self.frame(path, given, self.prune(frame, s, leaf))
+        for local, (arg, operand) in enumerate(zip(args, s.operands), 1):
+            here = frame.name(operand.local) if isinstance(operand, Place) and not operand.steps else ""
+            if here and path in forms.CUTS:
+                inner.names[local] = here
+            if isinstance(arg, Expression) and arg.word == "call" and arg.args[0] in self.library.by_name:
+                arg = self.variable_for(arg, inner.name(local), leaf)  # it is called before the function
+            self.define(inner, local, arg, leaf, inner.function.entry.get(local, 0))
+        out, result = self.run(inner, inner.function.body, leaf, tail), (inner.number, 0)
+        for own in out:
+            if own.target != RETURN:
+                raise Unknown(f"{path}: it ends without a return")
+            own.target = END
+            self.assign(frame, s, own.env.get(result, UNIT), own)
+        return out
 
-def lane(word: str, a: Expression, b: Expression) -> Expression:
-    if word == "<<" and value_of(a) == 1:
-        return call("skh_bit", NUMBERS[32], [b])
-    if word == "^" and a.word == "|" and a.args[0] == b:  # (b | c) ^ b
-        return operation("&", Expression("~", b.type, (b,)), a.args[1])
-    return operation(word, a, b)
+    def call_printed(self, frame: Frame, s: Statement, printed: Printed, args: list[Value], leaf: Leaf) -> Value:
+        """A call of a function of C. One that changes memory is a statement."""
+        parts = [parts_of(arg) if type.word == "Slice" else (arg,) for arg, type in zip(args, printed.types, strict=True)]
+        flat = [self.pointer(own, leaf) for each in parts for own in each]
+        flat = [own for own, is_used in zip(flat, printed.is_used, strict=True) if is_used]
+        e = call(printed.name, printed.result, flat, printed.effect)
+        if printed.effect == CHANGES:
+            self.keep(leaf)
+        if printed.result == VOID:
+            leaf.code.append(Do(e))
+            return UNIT
+        if printed.effect == CHANGES or printed.result in (forms.PAIR, forms.OPTION, forms.RESULT):
+            self.prune(frame, s, leaf)
+            e = self.variable_for(e, frame.name(s.place.local), leaf, True)
+        return Parts(tuple(self.part(e, (at,)) for at in (0, 1))) if printed.result == forms.PAIR else e
 
+    # ---- Results
 
-def size_of(type: Type) -> int:
-    if type.bits:
-        return type.bits // 8
-    if type.word == "Array":
-        return type.count * size_of(type.of)
-    raise Unknown(f"the size of {type}")
+    def given_value(self, value: Value, leaf: Leaf) -> Expression:
+        if self.result == forms.PAIR and isinstance(value, Parts):
+            a, b = map(expression_of, value.parts)
+            if a.word == b.word == "member" and a.args[0] == b.args[0] and (a.args[1], b.args[1]) == ("first", "second"):
+                return a.args[0]
+            return call("skh_pair_of", forms.PAIR, [a, b])
+        if isinstance(value, Choice) and self.result in (forms.OPTION, forms.RESULT):
+            fields = [own for own in value.fields if isinstance(own, Expression)]
+            if self.result == forms.OPTION:
+                return call("skh_some" if value.variant else "skh_none", forms.OPTION, fields)
+            return call("skh_error" if value.variant else "skh_ok", forms.RESULT, fields or [number(0, 64)])
+        if isinstance(self.result, Struct) and isinstance(value, Parts):
+            own = Variable(forms.local_name(self.result.text), self.result)
+            self.declare_struct(own, value, leaf)
+            return variable(own)
+        return expression_of(value)

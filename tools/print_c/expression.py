@@ -65,8 +65,8 @@ class Variable:
 class Expression:
     """An operator of C or one of the words below, and what it is applied to.
 
-    number VALUE, variable VARIABLE, address VARIABLE, at BASE OFFSET (a pointer, in bytes), load POINTER (a number of bytes,
-    the lowest first), element POINTER (a number of an array), member BASE NAME, deref POINTER, call NAME EFFECT ARGUMENTS..,
+    number VALUE, variable VARIABLE, address VALUE, at BASE OFFSET (a pointer, in bytes), element POINTER (a number of an
+    array), member BASE NAME, deref POINTER, call NAME EFFECT ARGUMENTS..,
     cast VALUE, any WORDS.. (whether a bit of these is set), ? CONDITION YES NO
     """
 
@@ -82,7 +82,7 @@ class Expression:
 
     def effect(self) -> int:
         """Whether it reads memory, and whether it changes it."""
-        return max(part.args[1] if part.word == "call" else READS if part.word in ("load", "element", "deref")
+        return max(part.args[1] if part.word == "call" else READS if part.word in ("element", "deref")
                    or part.word == "member" and isinstance(part.args[0].type, Pointer)
                    or part.word == "variable" and part.args[0].is_in_memory else NONE for part in self.parts())
 
@@ -90,7 +90,7 @@ class Expression:
         return self.effect() != NONE
 
     def variables(self) -> set[Variable]:
-        return {part.args[0] for part in self.parts() if part.word in ("variable", "address")}
+        return {part.args[0] for part in self.parts() if part.word == "variable"}
 
     def changed(self, change: Callable[[Expression], Expression]) -> Expression:
         """With each expression changed that it is applied to."""
@@ -129,7 +129,7 @@ SMALL = 2 ** 20  # two numbers below it have a sum that is meant as one
 def operation(word: str, a: Expression, b: Expression) -> Expression:
     """`a word b`, modulo 2^bits, of numbers of one width without a sign. Both are numbers of that width, also for shifts."""
     bits, type = a.type.bits, BOOL if word in NEGATED else a.type
-    if b.type.bits != bits or bits == 0 or INT in (a.type, b.type):
+    if b.type.bits != bits or bits == 0:
         raise Unknown(f"{word} of {a.type.text} and {b.type.text}")
     x, y = value_of(a), value_of(b)
     if word in ("/", "%") and y == 0 or word in ("<<", ">>") and y is not None and y >= bits:
@@ -168,14 +168,13 @@ def operation(word: str, a: Expression, b: Expression) -> Expression:
     return Expression(word, type, (a, b))
 
 
-def convert(e: Expression, bits: int, is_signed: bool = False) -> Expression:
+def convert(e: Expression, bits: int) -> Expression:
     """A number in another width: cut, or with zeros above."""
-    type = INT if is_signed else NUMBERS[bits]
-    if e.type == INT or e.type.bits == 0:
-        raise Unknown(f"a cast of {e.type.text} to {type.text}")
-    if e.word == "number" and not is_signed:
+    if e.type.bits == 0:
+        raise Unknown(f"a cast of {e.type.text} to {bits} bits")
+    if e.word == "number":
         return number(e.args[0], bits)
-    if e.type == type:
+    if e.type == NUMBERS[bits]:
         return e
     if e.word == "cast" and e.args[0].type.bits <= min(bits, e.type.bits):  # widened before
         return convert(e.args[0], bits)
@@ -183,12 +182,10 @@ def convert(e: Expression, bits: int, is_signed: bool = False) -> Expression:
         return convert(e.args[0], bits)
     if e.word == "call" and e.args[0] == "skh_wide_low_bits" and (value_of(e.args[3]) or 0) >= bits:
         return convert(e.args[2], bits)
-    return Expression("cast", type, (e,))
+    return Expression("cast", NUMBERS[bits], (e,))
 
 
 def negate(e: Expression) -> Expression:
-    if e.word == "number":
-        return number(1 - e.args[0], 1)
     if e.word in NEGATED:
         return Expression(NEGATED[e.word], BOOL, e.args)
     return e.args[0] if e.word == "!" else Expression("!", BOOL, (e,))
@@ -216,10 +213,6 @@ def at(base: Expression, offset: Expression) -> Expression:
     return base if value_of(offset) == 0 else Expression("at", base.type, (base, offset))
 
 
-def base_and_offset(pointer: Expression) -> tuple[Expression, Expression]:
-    return pointer.args if pointer.word == "at" else (pointer, number(0, 64))
-
-
 def divide(offset: Expression, size: int) -> Expression:
     """An offset in bytes, which is a multiple of the size of an element, as a number of elements."""
     value, factor = value_of(offset), value_of(offset.args[1]) if offset.word == "*" else None
@@ -229,6 +222,4 @@ def divide(offset: Expression, size: int) -> Expression:
         return number(value // size, 64)
     if size > 0 and factor is not None and factor % size == 0:
         return operation("*", offset.args[0], number(factor // size, 64))
-    if offset.word == "+":
-        return operation("+", divide(offset.args[0], size), divide(offset.args[1], size))
     raise Unknown(f"an offset that is no multiple of {size}: {offset}")

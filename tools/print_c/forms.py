@@ -1,12 +1,15 @@
-"""What the types and the functions of the source are in C. What is in none of these tables stays out of the text."""
+"""What the types, operations and functions of the source are in C. What is in none of these tables stays out of the text."""
 from __future__ import annotations
 
 import re
+from functools import partial
 from typing import Callable
 
-from expression import BOOL, NUMBERS, VOID, CType, Expression, Pointer, Struct, at, call, convert, number, value_of
-from mir import BYTE, UNIT, WORD, Crates, Type, Unknown
+from expression import (BOOL, NUMBERS, READS, VOID, Expression, Pointer, Struct, at, call, convert, negate, number,
+                        operation, value_of)
 from mir import BOOL as FLAG
+from mir import BYTE, UNIT, WIDTHS, WORD, Statement, Type, Unknown, word_of
+from values import Bytes, Parts, Spelled, Value, expression_of, parts_of
 
 # Structs of the source that are structs of C. A function with any other in its signature is written out where it is called.
 STRUCTS = {
@@ -15,32 +18,32 @@ STRUCTS = {
     "sketch_hash::hash::murmurhash::MurmurHash3X64128": "struct skh_murmur3_hasher",
     "sketch_hash::hash::murmurhash::state::MurmurState": "sketch_murmur3_x64_128_state_t",
 }
-# The part of the text that a module's functions are in, the beginning of their names, and its title.
-PARTS = (
-    ("sketch_hash::hash::words", "skh_", "Words"),
-    ("sketch_hash::hash::copy", "skh_", "Copies of a few bytes"),
-    ("sketch_hash::hash::columns::XxHash64", "skh_xxh64_", "XXH64"),
-    ("sketch_hash::hash::columns::Murmur", "skh_murmur3_", "MurmurHash3 x64 128"),
-    ("sketch_hash::hash::columns", "skh_", "Offsets of columns"),
-    ("sketch_hash::hash::xxhash", "skh_xxh64_", "XXH64"),
-    ("sketch_hash::hash::murmurhash", "skh_murmur3_", "MurmurHash3 x64 128"),
-    ("sketch_hash::hash::seed", "skh_", "Seed hashes"),
-    ("sketch_bloom", "skh_bloom_", "Bloom filter"),
-    ("sketch_c", "skh_", "Results of calls"),
-)
-TITLES = ("Words", "Copies of a few bytes", "Offsets of columns", "XXH64", "MurmurHash3 x64 128", "Seed hashes", "Bloom filter",
-          "Results of calls", "Calls")
+# The parts of the text in their order: of each the beginning of its names, and the paths of its functions.
+PARTS = {
+    "Words": ("skh_", "sketch_hash::hash::words"),
+    "Copies of a few bytes": ("skh_", "sketch_hash::hash::copy"),
+    "Offsets of columns": ("skh_", "sketch_hash::hash::columns::(?!XxHash64|Murmur)"),
+    "XXH64": ("skh_xxh64_", "sketch_hash::hash::(xxhash|columns::XxHash64)"),
+    "MurmurHash3 x64 128": ("skh_murmur3_", "sketch_hash::hash::(murmurhash|columns::Murmur)"),
+    "Seed hashes": ("skh_", "sketch_hash::hash::seed"),
+    "Bloom filter": ("skh_bloom_", "sketch_bloom"),
+    "Results of calls": ("skh_", "sketch_c"),
+}
 # C allows no offset from NULL. Only these calls compute one from a pointer of no bytes, and take another pointer for it.
 OFFSET_OF_NOTHING = re.compile(r"sketch_murmur3_x64_128$|sketch_\w+_each(32|64)$")
 # The names of constant arrays.
 ARRAYS = {(28, 28, 0, 0, 28, 28, 0, 0, 28, 28, 0, 0, 0): "skh_union_fields"}
-# The numbers that stand for errors, by the function that returns them.
-STATUSES = {1: "1", 0: "SKETCH_OK", -1: "SKETCH_ERROR_LENGTH", -2: "SKETCH_ERROR_OFFSET", -3: "SKETCH_ERROR_COUNT",
-            -5: "SKETCH_ERROR_SEED"}
+# What calls return as an int, by its 32 bits.
+STATUSES = {1: "1", 0: "SKETCH_OK", 2 ** 32 - 1: "SKETCH_ERROR_LENGTH", 2 ** 32 - 2: "SKETCH_ERROR_OFFSET",
+            2 ** 32 - 3: "SKETCH_ERROR_COUNT", 2 ** 32 - 5: "SKETCH_ERROR_SEED"}
 
 PAIR = Struct("struct skh_pair", 0, (("first", NUMBERS[64]), ("second", NUMBERS[64])))
 OPTION = Struct("struct skh_option", 0, (("is_some", BOOL), ("value", NUMBERS[64])))
 RESULT = Struct("struct skh_result", 0, (("is_error", BOOL), ("value", NUMBERS[64])))
+# What functions return that is no number: two of them, one or none, one or the number of an error.
+RESULTS = {UNIT: VOID, FLAG: BOOL, Type("Named", ("(,)", (WORD, WORD))): PAIR,
+           Type("Named", ("core::option::Option", (WORD,))): OPTION,
+           **{Type("Named", ("core::result::Result", (value, WORD))): RESULT for value in (WORD, UNIT)}}
 
 
 class NoForm(Unknown):
@@ -48,21 +51,10 @@ class NoForm(Unknown):
 
 
 def part_of(path: str) -> tuple[str, str]:
-    for start, prefix, title in PARTS:
-        if path.startswith(start):
+    for title, (prefix, paths) in PARTS.items():
+        if re.match(paths, path):
             return prefix, title
     raise Unknown(f"the part of the text for {path}")
-
-
-def struct_of(type: Type, crates: Crates, members: dict[str, list[str]]) -> Struct:
-    if type.name not in STRUCTS:
-        raise NoForm(type)
-    forms: list[tuple[str, CType | int]] = []
-    for name, own in zip(members[type.name], crates.shape(type)[1], strict=True):
-        if own != WORD and (own.word, own.args[:1]) != ("Array", (BYTE,)):
-            raise Unknown(f"a member of {type.name}: {own}")
-        forms.append((name, NUMBERS[64] if own == WORD else own.count))
-    return Struct(STRUCTS[type.name], 0, tuple(forms))
 
 
 def pointer_to(type: Type, is_const: bool, is_slice: bool, struct: Callable[[Type], Struct]) -> Pointer:
@@ -81,21 +73,64 @@ def pointer_to(type: Type, is_const: bool, is_slice: bool, struct: Callable[[Typ
     raise NoForm(type)
 
 
-def result_of(type: Type, struct: Callable[[Type], Struct]) -> CType:
-    """What a function returns: a number, two, one or none, one or the number of an error."""
+# ---- Operations
+
+OPERATORS = {"WrapAdd": "+", "WrapSub": "-", "WrapMul": "*", "Add": "+", "Sub": "-", "Mul": "*", "Div": "/", "Rem": "%",
+             "Shl": "<<", "Shr": ">>", "And": "&", "Or": "|", "Xor": "^", "Eq": "==", "Ne": "!=", "Lt": "<", "Le": "<="}
+SIGNED = {"Add", "Sub", "Mul", "Div", "Rem", "Shr", "Lt", "Le"}  # which say whether their numbers have a sign
+
+# The operations on vectors, by the width of their lanes.
+LANES = {8: ("And", "Or", "Xor"), 32: ("And", "Or", "Xor", "Shl", "Shr", "WrapAdd", "WrapMul")}
+
+
+def operator_of(token: object) -> str:
+    """The operator in C of an operation on numbers without a sign."""
+    word, sign = word_of(token)
+    if word not in OPERATORS or sign != ("Unsigned" if word in SIGNED else None):
+        raise Unknown(f"operation {token}")
+    return OPERATORS[word]
+
+
+def one(token: object, value: Expression) -> Expression:
+    word, of = word_of(token)
+    if word == "Not" and value.type == BOOL:
+        return negate(value)
+    if word == "Not" and value.type.bits in (8, 16, 32, 64):
+        all_bits = number(-1, value.type.bits)
+        return operation("^", value, all_bits) if value.word == "number" else Expression("~", value.type, (value,))
+    if word == "Cast" and of[0] == "Unsigned" and of[2] in WIDTHS and (of[1] == "Unsigned" or of[1:] == ["Signed", 32]):
+        return convert(value, of[2])
+    if word == "CountOnes" and value.type.bits == 32:
+        return call("skh_ones32", NUMBERS[32], [value])
+    raise Unknown(f"operation {token} of {value.type.text}")
+
+
+def vector(s: Statement, values: list[Value], type: Type) -> Value:
+    """Vectors are words of 32 bits, see Memory.read."""
+    word, of = word_of(s.of)
+    if s.word == "Vec1" and word == "Recast":
+        return values[0]
+    if s.word == "Vec2" and word == "Map" and word_of(of)[0] in LANES.get(type.of.bits, ()):
+        return Parts(tuple(lane(operator_of(of), a, b) for a, b in zip(*map(parts_of, values), strict=True)))
+    if s.word == "Vec2" and word == "Fold" and of == "Or" and value_of(values[0]) == 0:
+        return Expression("any", NUMBERS[8], parts_of(values[1]))
+    raise Unknown(f"vector operation {s.of}")
+
+
+def lane(word: str, a: Expression, b: Expression) -> Expression:
+    if word == "<<" and value_of(a) == 1:
+        return call("skh_bit", NUMBERS[32], [b])
+    if word == "^" and a.word == "|" and a.args[0] == b:  # (b | c) ^ b
+        return operation("&", Expression("~", b.type, (b,)), a.args[1])
+    return operation(word, a, b)
+
+
+def size_of(type: Type) -> int:
     if type.bits:
-        return NUMBERS[type.bits]
-    if type.word != "Named":
-        if type not in (UNIT, FLAG):
-            raise NoForm(type)
-        return VOID if type == UNIT else BOOL
-    if type.args == ("(,)", (WORD, WORD)):
-        return PAIR
-    if type.args == ("core::option::Option", (WORD,)):
-        return OPTION
-    if type.args in (("core::result::Result", (WORD, WORD)), ("core::result::Result", (UNIT, WORD))):
-        return RESULT
-    return struct(type)
+        return type.bits // 8
+    if type.word == "Array":
+        return type.count * size_of(type.of)
+    raise Unknown(f"the size of {type}")
 
 
 # ---- Functions of the standard library that have a form of their own. All others are written out from their bodies.
@@ -106,27 +141,33 @@ def load(pointer: Expression, bits: int) -> Expression:
         raise Unknown(f"a number of {bits} bits from {pointer.type}")
     if bits == 128:
         return call("skh_wide", NUMBERS[128], [load(at(pointer, number(8, 64)), 64), load(pointer, 64)])
-    return Expression("load", NUMBERS[bits], (pointer,))
+    return call(f"skh_load{bits}", NUMBERS[bits], [pointer], READS)
 
 
-def rotate_left(word: Expression, places: Expression) -> Expression:
-    return call("skh_rotate64", NUMBERS[64], [word, convert(places, 64)])
+def from_bytes(bits: int, value: Value) -> Expression:
+    if not isinstance(value, Bytes):
+        raise Unknown(f"a number of {value}")
+    return load(value.pointer, bits)
 
 
-def rotate_right(word: Expression, places: Expression) -> Expression:
+def of_two(name: str, a: Value, b: Value) -> Expression:
+    return call(name, NUMBERS[64], [expression_of(a), convert(expression_of(b), 64)])
+
+
+def rotate_right(word: Value, places: Value) -> Expression:
     if value_of(places) is None:
         raise Unknown("rotate_right by an unknown number")
-    return rotate_left(word, number(64 - places.args[0], 64))
+    return of_two("skh_rotate64", word, number(64 - value_of(places), 64))
 
 
-NUMBER_CALLS: dict[str, Callable[..., Expression]] = {
-    "core::int::u64::rotate_left": rotate_left,
+CALLS: dict[str, Callable[..., Value]] = {
+    "core::int::u64::rotate_left": partial(of_two, "skh_rotate64"),
     "core::int::usize::rotate_right": rotate_right,
-    "core::int::usize::min": lambda a, b: call("skh_least64", NUMBERS[64], [a, b]),
-    "core::int::usize::saturating_sub": lambda a, b: call("skh_less64", NUMBERS[64], [a, b]),
+    "core::int::usize::min": partial(of_two, "skh_least64"),
+    "core::int::usize::saturating_sub": partial(of_two, "skh_less64"),
+    **{f"core::int::u{bits}::from_le_bytes": partial(from_bytes, bits) for bits in (16, 32, 64, 128)},
+    **{f"core::int::u{bits}::to_le_bytes": lambda value: Spelled(expression_of(value)) for bits in (64, 128)},
 }
-FROM_BYTES = {f"core::int::u{bits}::from_le_bytes": bits for bits in (16, 32, 64, 128)}
-TO_BYTES = {f"core::int::u{bits}::to_le_bytes" for bits in (64, 128)}
 # These cut a slice into pieces, which keeps the name that the caller has for it.
 CUTS = ("core::simd::chunks::slice+T::as_chunks", "sketch_hash::hash::words::split_pieces")
 COPY = "core::slice::edits::slice+T::copy_from_slice"

@@ -9,10 +9,10 @@ from values import Key
 
 
 class Frame:
-    """The function that is printed, or one that is written out in it. `tail`: whether what it returns is returned."""
+    """The function that is printed, or one that is written out in it."""
 
-    def __init__(self, number: int, function: Function, given: Given, source: Source, tail: bool, caller_keys: set[Key]):
-        self.number, self.function, self.given, self.tail, self.caller_keys = number, function, given, tail, caller_keys
+    def __init__(self, number: int, function: Function, given: Given, source: Source, caller_keys: set[Key]):
+        self.number, self.function, self.given, self.caller_keys = number, function, given, caller_keys
         self.first = function.parameter_count + 1  # the first local that is no parameter
         self.names = {local: name for local, name in enumerate(source.parameters, 1) if name != "self"}
         self.names |= {self.first + i: name for i, name in enumerate(source.bound) if name}
@@ -30,7 +30,7 @@ class Frame:
                 self.scan(body, source, calls)
             if s.place is None:
                 continue
-            local, called = s.place.local, name_of(s)
+            local, called = s.place.local, s.of[0].split("::")[-1] if s.word == "Call" and isinstance(s.of[0], str) else ""
             if not s.place.steps:
                 self.sets[local] = self.sets.get(local, 0) + 1
             for comment in source.comments:
@@ -49,7 +49,3 @@ class Frame:
 
     def name(self, local: int) -> str:
         return self.names.get(local) or self.hints.get(local) or ""
-
-
-def name_of(s: Statement) -> str:
-    return s.of[0].split("::")[-1] if s.word == "Call" and isinstance(s.of[0], str) else ""

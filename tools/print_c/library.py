@@ -3,6 +3,7 @@ from __future__ import annotations
 
 import re
 from dataclasses import dataclass, field
+from functools import cache
 from typing import Iterable
 
 import forms
@@ -10,25 +11,20 @@ from evaluate import Body
 from expression import (BOOL, CHANGES, INT, NONE, NUMBERS, READS, SIZE, VOID, CType, Expression, Pointer, Struct, Variable,
                         call, convert, variable)
 from mir import BOOL as FLAG
-from mir import BYTE, Crates, Given, Statement, Type, Unknown
+from mir import BYTE, WORD, Crates, Given, Type, Unknown
 from source import Sources
 from statement import (Comment, Declare, Do, Give, Node, When, While, all_nodes, expressions_of, inline_once, lists_of,
                        must_be_declared, reads_of, tidy, without_unread)
-from values import Parts, Value
+from values import Parts
 from write import Writer, comment
 
 CRATES = ("sketch_base", "sketch_hash", "datasketches", "sketch_bloom", "sketch_c")
-# What is evaluated where it is called, since in C it is one operator.
-WRITTEN_OUT = re.compile(r"^core::|::fn::|\+Fn|^sketch_hash::hash::(words::read_|value::|columns::U\d+Offset)"
-                         r"|^sketch_hash::hash::murmurhash::block_word|^sketch_bloom::folds::word$")
-# Functions of one name that belong to different types.
-OWNERS = {"MurmurState": "state_", "XxHash64State": "state_"}
-SELF = {"MurmurState": "state", "XxHash64State": "state", "ScalarLanes": "lanes", "MurmurHash3X64128": "hasher",
-        "MurmurHash3X64128Hasher": "hasher", "XxHash64": "hasher"}
+# What is evaluated where it is called, since in C it is one operator or call.
+WRITTEN_OUT = re.compile(r"^core::|::fn::|\+Fn|^sketch_hash::hash::(words::(read_|rotate|split_pieces)|copy::copy_array|value::"
+                         r"|columns::U\d+Offset|murmurhash::block_word)|^sketch_bloom::folds::word$")
 STORAGE = {"always": "SKH_INLINE", "never": "static SKH_NOINLINE", "": "static"}
 HEADER_TYPES = {own.text: own for own in (INT, SIZE, VOID, NUMBERS[16], NUMBERS[32], NUMBERS[64])}
 DECLARATION = re.compile(r"/\*\*((?:(?!\*/).)*)\*/\nSKETCH_HASH_API ([^;(]+?) ?\b(sketch_\w+)\(([^;]*)\);", re.S)
-Parameters = list[tuple[Value, list[Variable]]]  # of each what it is at the beginning, and its variables in C
 
 
 @dataclass(eq=False)
@@ -66,7 +62,7 @@ def read_header(text: str) -> dict[str, Declared]:
     for about, result, name, parameters in DECLARATION.findall(text):
         first = re.sub(r"(?m)^ \*( |$)", "", about.strip()).split("\n\n")[0].replace("\n", " ")
         flat = re.sub(r"\s+", " ", parameters)
-        names = re.findall(r"([^,]*?[ *(])(\w+)\)?(?:\[\d*\])*(?:,|$)", flat) if flat != "void" else []
+        names = re.findall(r"([^,]*?[ *(])(\w+)\)?(?:\[\d*\])*(?:,|$)", flat)
         out[name] = Declared(first, HEADER_TYPES[result], flat, names)
     return out
 
@@ -74,14 +70,20 @@ def read_header(text: str) -> dict[str, Declared]:
 class Library:
     def __init__(self, crates: Crates, header: str, sources: Sources):
         self.crates, self.sources, self.declared = crates, sources, read_header(header)
-        self.done: dict[tuple[str, Given], Printed | None] = {}
         self.by_name: dict[str, Printed] = {}
         self.arrays: dict[tuple[int, ...], Variable] = {}
         self.with_vectors: set[str] = set()  # functions that are told whether there are vectors,
         self.chosen: set[str] = set()  # and those that find out, and call one that is told
 
     def struct(self, type: Type) -> Struct:
-        return forms.struct_of(type, self.crates, self.sources.members)
+        if type.name not in forms.STRUCTS:
+            raise forms.NoForm(type)
+        members: list[tuple[str, CType | int]] = []
+        for name, own in zip(self.sources.members[type.name], self.crates.shape(type)[1], strict=True):
+            if own != WORD and (own.word, own.args[:1]) != ("Array", (BYTE,)):
+                raise Unknown(f"a member of {type.name}: {own}")
+            members.append((name, NUMBERS[64] if own == WORD else own.count))
+        return Struct(forms.STRUCTS[type.name], 0, tuple(members))
 
     def constant(self, type: Type, values: tuple[int, ...]) -> Expression:
         if type.word != "Array" or type.of != BYTE or values not in forms.ARRAYS:
@@ -91,94 +93,78 @@ class Library:
 
     # ---- Functions
 
-    def printed(self, path: str, given: Given) -> Printed | None:
+    @cache
+    def printed(self, path: str, args: Given) -> Printed | None:
         """The function of C for an instance, or None if it is written out where it is called."""
-        if (path, given) not in self.done:
-            self.done[path, given] = self.make(path, given)
-        return self.done[path, given]
-
-    def calls_own(self, statements: list[Statement]) -> bool:
-        """Whether functions are called that are not the standard library's."""
-        return any(s.word == "Call" and isinstance(s.of[0], str) and not s.of[0].startswith("core::")
-                   or any(map(self.calls_own, s.bodies)) for s in statements)
-
-    def make(self, path: str, given: Given) -> Printed | None:
-        function = self.crates.function(path)
-        numbers = [own.args[0] for own in given.types if own.word == "Const"]
-        if WRITTEN_OUT.search(path) or numbers and not self.calls_own(function.body):
+        if WRITTEN_OUT.search(path):
             return None
-        types, source = list(map(given.type, function.parameters)), self.sources.of(path)
+        function = self.crates.function(path)
+        numbers = [own.args[0] for own in args.types if own.word == "Const"]
+        types, source = list(map(args.type, function.parameters)), self.sources.of(path)
         if len(source.parameters) != len(types):
             raise Unknown(f"{path}: {len(types)} parameters, and {len(source.parameters)} in its text")
-        *_, owner, last = path.split("::")
         try:
-            names = [SELF[owner] if name == "self" else name for name in source.parameters]
-            values = list(map(self.parameter, types, names))
-            result = forms.result_of(given.type(function.locals[0]), self.struct)
+            given = list(map(self.parameter, types, source.parameters))
+            of = args.type(function.locals[0])
+            result = NUMBERS[of.bits] if of.bits else forms.RESULTS.get(of) or self.struct(of)
         except forms.NoForm:
             return None
         prefix, title = forms.part_of(path)
-        widths = [own.bits for own in given.types if own.bits]
-        name = prefix + OWNERS.get(owner, "") + last + "".join(f"_{n}" for n in numbers) + "".join(map(str, widths))
+        widths = [own.bits for own in args.types if own.bits]
+        of_state = "state_" * (path.split("::")[-2].endswith("State"))  # a hasher has a function of this name too
+        last = path.split("::")[-1]
+        name = prefix + of_state + last + "".join(f"_{n}" for n in numbers) + "".join(map(str, widths))
         if name in self.by_name:
             raise Unknown(f"{path}: a second function {name}")
-        parameters = [own for _, each in values for own in each]
+        parameters = sum(given, [])
         pointers = [own.type for own in parameters if isinstance(own.type, Pointer)]
-        effect = CHANGES if any(not own.is_const for own in pointers) else READS if pointers else NONE
+        effect = max((READS if own.is_const else CHANGES for own in pointers), default=NONE)
         about = source.about
         for n in numbers:  # K is its number in this instance
             about = [re.sub(r"\bK\b", str(n), own.replace("2 K", str(2 * n))) for own in about]
         requires = source.requires if source.inline == "never" else ""
         printed = Printed(name, title, types, parameters, result, effect, about, STORAGE[source.inline], last, requires)
-        return self.finish(printed, Body(self, path, given, result), values)
+        return self.finish(printed, Body(self, path, args, result), [list(map(variable, each)) for each in given])
 
-    def parameter(self, type: Type, name: str) -> tuple[Value, list[Variable]]:
+    def parameter(self, type: Type, name: str) -> list[Variable]:
         if type.word == "Slice":
-            own = [Variable(name, forms.pointer_to(type.of, not type.is_mut, True, self.struct)),
-                   Variable(name + ("_length" if type.of == BYTE else "_count"), NUMBERS[64])]
-            return Parts(tuple(map(variable, own))), own
+            return [Variable(name, forms.pointer_to(type.of, not type.is_mut, True, self.struct)),
+                    Variable(name + ("_length" if type.of == BYTE else "_count"), NUMBERS[64])]
         if type.word == "Ref":
             form: CType = forms.pointer_to(type.of, not type.is_mut, False, self.struct)
         else:
             form = NUMBERS[type.bits] if type.bits else BOOL if type == FLAG else self.struct(type)
-        one = Variable(name, form)
-        return variable(one), [one]
+        return [Variable(forms.local_name(form.text) if name == "self" else name, form)]
 
     def entry(self, path: str) -> Printed:
         """A call of the header, which gives it its parameters."""
         function, name = self.crates.function(path), path.split("::")[-1]
         declared = self.declared[name]
-        names, values = iter(declared.names), []
-        for type in function.parameters:
-            text, own = next(names)
-            if type.word == "Slice":
-                pointer = forms.pointer_to(type.of, not type.is_mut, True, self.struct)
-                given = [Variable(own, CType("void *") if "void" in text else pointer), Variable(next(names)[1], SIZE)]
-                first, count = map(variable, given)
-                if pointer.size == 1 and not type.is_mut and own in ("input", "keys") and forms.OFFSET_OF_NOTHING.match(name):
-                    first = call("skh_slice", pointer, [first])
-                elif "void" in text:
-                    first = Expression("cast", pointer, (first,))
-                values.append((Parts((first, convert(count, 64))), given))
-                continue
-            value, given = self.parameter(type, own)
-            if "size_t" in text and type.word == "Ref":
-                given[0].type = Pointer("size_t", 0, 8, not type.is_mut)
-            elif "size_t" in text:
-                given[0].type = SIZE
-            value = variable(given[0])
-            values.append((value if type.word == "Ref" else convert(value, value.type.bits), given))
+        names, given = iter(declared.names), [self.parameter(type, "") for type in function.parameters]
+        values = [[self.of_caller(own, *next(names), name) for own in each] for each in given]
         if more := list(names):
             raise Unknown(f"{name}: more parameters in the header: {more}")
-        parameters = [own for _, each in values for own in each]
-        printed = Printed(name, "Calls", function.parameters, parameters, declared.result, CHANGES, [declared.about],
+        printed = Printed(name, "Calls", function.parameters, sum(given, []), declared.result, CHANGES, [declared.about],
                           "SKETCH_HASH_API", head=declared.parameters)
         return self.finish(printed, Body(self, path, Given(), declared.result), values)
 
-    def finish(self, printed: Printed, body: Body, values: Parameters) -> Printed:
+    @staticmethod
+    def of_caller(own: Variable, text: str, name: str, entry: str) -> Expression:
+        """What the source has of a parameter. The header has its name, and `text` before it."""
+        form, own.name = own.type, name
+        if "void" in text:
+            own.type = CType("void *")
+            if name in ("input", "keys") and forms.OFFSET_OF_NOTHING.match(entry):
+                return call("skh_slice", form, [variable(own)])
+            return Expression("cast", form, (variable(own),))
+        if "size_t" in text:
+            own.type = Pointer("size_t", 0, 8, form.is_const) if isinstance(form, Pointer) else SIZE
+        return variable(own) if isinstance(form, Pointer) else convert(variable(own), form.bits)
+
+    def finish(self, printed: Printed, body: Body, values: list[list[Expression]]) -> Printed:
         self.by_name[printed.name] = printed
-        body.evaluate(values)
-        printed.body = tidy(inline_once(without_unread(body.code)))
+        code = body.evaluate([Parts(tuple(own)) if len(own) > 1 else own[0] for own in values], printed.parameters)
+        printed.body = tidy(inline_once(without_unread(code)))
         must_be_declared(printed.body, [*printed.parameters, *self.arrays.values()])
         reads = reads_of(printed.body)
         printed.is_used = [own in reads or bool(printed.head) for own in printed.parameters]
@@ -192,17 +178,17 @@ class Library:
                     printed.calls[part.args[0]] = None
         return printed
 
-    def expected(self, node: When) -> bool | None:
+    def expected(self, node: When) -> str:
         """Errors are not expected, nor is a separate function where there is one that is not."""
         def called(nodes: list[Node]) -> str:
             return nodes[0].call.args[0] if len(nodes) == 1 and isinstance(nodes[0], Do) else ""
 
         last = node.yes[-1]
         if isinstance(last, Give) and last.value is not None and last.value.args[0] == "skh_error":
-            return False
+            return "SKH_UNLIKELY"
         other = called(node.no)
         is_separate = other in self.by_name and "NOINLINE" in self.by_name[other].storage
-        return True if called(node.yes) and (is_separate or len(node.no) > 2) else None
+        return "SKH_LIKELY" if called(node.yes) and (is_separate or len(node.no) > 2) else ""
 
     # ---- Text
 
@@ -210,8 +196,8 @@ class Library:
         entries = [self.entry(path) for path in roots]
         constants = {value: f"SKH_{name}" for name, value in self.sources.constants.items()}
         writer, ordered = Writer(constants, self.with_vectors), list(self.in_order(entries, set()))
-        out = [head, *structs(ordered)]
-        for title in forms.TITLES:
+        out = [head, *structs(ordered, head)]
+        for title in (*forms.PARTS, "Calls"):
             texts = [self.function_text(own, writer) for own in ordered if own.title == title]
             lines = {name: f"#define {name} 0x{value:x}u" for value, name in constants.items()}
             lines |= {own.name: f"static const unsigned char {own.name}[] = {{{', '.join(map(str, values))}}};"
@@ -260,12 +246,11 @@ class Library:
         return re.sub(r"`([\w:]+)`", word, text)
 
 
-def structs(functions: list[Printed]) -> list[str]:
+def structs(functions: list[Printed], head: str) -> list[str]:
     """The structs that are neither in the header nor in the head of the text."""
     types = dict.fromkeys([own.result for own in functions] + [own.type for each in functions for own in each.parameters])
-    of_head = (forms.PAIR, forms.OPTION, forms.RESULT)
     return [f"{own.text} {{\n    uint64_t {', '.join(name for name, _ in own.members)};\n}};\n" for own in types
-            if own.text.startswith("struct skh_") and isinstance(own, Struct) and own not in of_head]
+            if own.text.startswith("struct skh_") and isinstance(own, Struct) and f"{own.text} {{" not in head]
 
 
 def requirements(text: str) -> list[str]:
@@ -278,14 +263,14 @@ def requirements(text: str) -> list[str]:
 def name_all(nodes: list[Node], taken: set[str]) -> None:
     """Gives each variable a name that nothing around it has."""
     for node in nodes:
-        first = [node.first] if isinstance(node, While) and node.first else []
-        inner = set(taken)
-        for own in [node] if isinstance(node, Declare) else first:
+        own = node if isinstance(node, Declare) else node.counter if isinstance(node, While) else None
+        inner = taken if isinstance(node, Declare) else set(taken)
+        if own:
             base = own.variable.name or "x"
             if base in taken and isinstance(own.variable.type, Pointer):
                 base += "_bytes"
-            name = next(name for count in range(1, 99) if (name := f"{base}{count if count > 1 else ''}") not in taken)
-            own.variable.name = name
-            (inner if first else taken).add(name)
+            names = (f"{base}{count if count > 1 else ''}" for count in range(1, 99))
+            own.variable.name = next(name for name in names if name not in taken)
+            inner.add(own.variable.name)
         for each in lists_of(node):
-            name_all(each, inner | taken)
+            name_all(each, set(inner))

@@ -1,23 +1,18 @@
 """How often each local is read after a statement, before it is set again: never, once, or several times."""
 from __future__ import annotations
 
+from collections import Counter
+from functools import reduce
+
 from mir import Function, Operand, Place, Statement
 
-Counts = dict[int, int]
+Counts = Counter[int]  # of the ways that go on at a place, a | b is the one that reads a local most often
 SEVERAL = 2
 
 
 def added(counts: Counts, operands: tuple[Operand, ...]) -> Counts:
-    out = dict(counts)
-    for operand in operands:
-        if isinstance(operand, Place):
-            out[operand.local] = min(SEVERAL, out.get(operand.local, 0) + 1)
-    return out
-
-
-def most(several: list[Counts]) -> Counts:
-    """Of the ways that go on here, the one that reads a local most often."""
-    return {local: max(counts.get(local, 0) for counts in several) for local in set().union(*several)}
+    more = counts + Counter(operand.local for operand in operands if isinstance(operand, Place))
+    return Counter({local: min(SEVERAL, count) for local, count in more.items()})
 
 
 def mark(function: Function) -> None:
@@ -33,22 +28,22 @@ def mark(function: Function) -> None:
         """What is read from this statement on. `around` is what is read behind each block and loop around it."""
         statement.after = {**after, **always}
         if statement.word == "Return":
-            return {0: 1}
+            return Counter([0])
         if statement.word == "Exit":
             return around[-1 - statement.of]
         if statement.word == "If":
-            after = most([before_all(body, after, around) for body in statement.bodies])
+            after = reduce(Counter.__or__, (before_all(body, after, around) for body in statement.bodies))
         elif statement.word == "Block":
             return before_all(statement.bodies[0], after, [*around, after])
         elif statement.word == "Loop":
-            head: Counts = {}
-            while (more := most([head, before_all(statement.bodies[0], head, [*around, after])])) != head:
+            head: Counts = Counter()
+            while (more := head | before_all(statement.bodies[0], head, [*around, after])) != head:
                 head = more
             return head
         elif statement.place.steps:
             after = added(after, (statement.place,))
         else:
-            after = {local: count for local, count in after.items() if local != statement.place.local}
+            after = Counter({local: count for local, count in after.items() if local != statement.place.local})
         return added(after, statement.operands)
 
-    function.entry = before_all(function.body, {}, [])
+    function.entry = before_all(function.body, Counter(), [])

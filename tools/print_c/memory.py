@@ -1,15 +1,19 @@
-"""Writes to memory, and pointers to it. What was to be read from it is read before."""
+"""Locals and memory: what is at a place, what is written to it, and pointers. What was to be read is read before a write."""
 from __future__ import annotations
 
+from typing import TYPE_CHECKING, NamedTuple
+
 import forms
-from expression import (CHANGES, NUMBERS, VOID, Expression, Pointer, Struct, Variable, at, call, convert, number, operation,
-                        value_of, variable)
+from expression import (CHANGES, NUMBERS, VOID, CType, Expression, Pointer, Struct, Variable, at, call, convert, number,
+                        operation, value_of, variable)
 from frames import Frame
-from mir import BYTE, Statement, Type, Unknown
-from places import Places, Where, member
+from mir import BYTE, WORD, Given, Place, Statement, Type, Unknown
 from statement import Declare, Do, Set
-from values import (Bytes, InMemory, Leaf, Parts, Spelled, ToLocal, Value, changed, expression_of, is_step, leaves, parts_of,
-                    put, weight)
+from values import (Bytes, Choice, InMemory, Key, Leaf, Parts, Path, Spelled, ToLocal, Undefined, Value, changed,
+                    expression_of, is_free, is_step, leaves, parts_of, weight)
+
+if TYPE_CHECKING:
+    from library import Library
 
 
 class Again(Exception):
@@ -20,7 +24,144 @@ def has_bytes(value: Value) -> bool:
     return isinstance(value, Bytes) or isinstance(value, Parts) and any(map(has_bytes, value.parts))
 
 
-class Memory(Places):
+class Where(NamedTuple):
+    """A value of a type: a part of the local `key`, or what `pointer` points to, or a member of the struct there."""
+
+    type: Type
+    key: Key = (0, 0)
+    path: Path = ()
+    pointer: Expression | None = None
+    member: Value | None = None
+    variant: int | None = None  # of the enum that the path leads to
+
+
+def member(base: Expression, name: str, form: CType | int, is_const: bool) -> Value:
+    if isinstance(form, int):
+        return Bytes(Expression("member", Pointer("unsigned char", 0, 1, is_const), (base, name)), form)
+    return Expression("member", form, (base, name))
+
+
+class Memory:
+    """What the statements of one function of C have in common."""
+
+    def __init__(self, library: Library, path: str, given: Given, result: CType):
+        self.library, self.crates, self.path, self.given, self.result = library, library.crates, path, given, result
+        self.in_memory: set[tuple[str, int]] = set()  # the locals whose addresses are passed on
+        self.frames: list[Frame] = []
+
+    def locate(self, frame: Frame, place: Place, leaf: Leaf) -> Where:
+        where = Where(frame.given.type(frame.function.locals[place.local]), (frame.number, place.local))
+        for step in place.steps:
+            if step.word == "Deref":
+                target, value = frame.given.type(step.of), self.read(where, leaf)
+                if isinstance(value, ToLocal):
+                    where = Where(target, value.key, value.path)
+                elif isinstance(value, Expression) and isinstance(value.type, Pointer):
+                    where = Where(target, pointer=value)
+                else:
+                    raise Unknown(f"{self.path}: what {value} points to")
+            elif step.word == "Variant" and where.pointer is None and where.variant is None:
+                where = where._replace(variant=step.of)
+            elif step.word == "Field" and where.member is None:
+                where = self.field(where, step.of)
+            else:
+                raise Unknown(f"{self.path}: a {step.word} of {where.type} in memory")
+        return where
+
+    def field(self, where: Where, index: int) -> Where:
+        type = where.type
+        if type.word == "Slice":
+            inner = Type("Ref", type.args) if index == 0 else WORD
+        else:
+            word, fields = self.crates.shape(type)
+            if word == "Variants":
+                inner = BYTE if index == 0 else fields[where.variant][index - 1]
+            else:
+                inner = fields[index]
+        if where.pointer is not None:
+            name, form = self.library.struct(type).members[index]
+            return where._replace(type=inner, member=member(where.pointer, name, form, where.pointer.type.is_const))
+        variant = () if where.variant is None or index == 0 else (where.variant,)
+        return Where(inner, where.key, (*where.path, *variant, index))
+
+    def read(self, where: Where, leaf: Leaf, name: str = "block") -> Value:
+        type, pointer = where.type, where.pointer
+        if where.member is not None:
+            return where.member
+        if pointer is None:
+            return self.part(leaf.env.get(where.key, Undefined()), where.path)
+        if type.word == "Vector" and type.of.bits in (8, 32):
+            pointer = self.named_pointer(pointer, leaf, name)
+            return Parts(tuple(forms.load(at(pointer, number(4 * i, 64)), 32) for i in range(type.of.bits * type.count // 32)))
+        if type.bits and type.bits // 8 == pointer.type.size:
+            return Expression("element", NUMBERS[type.bits], (pointer,))
+        if type.word == "Array" and type.of == BYTE and pointer.type.size == 1:
+            return Bytes(pointer, type.count)
+        raise Unknown(f"{self.path}: a read of {type} at {pointer.type.text}")
+
+    def part(self, value: Value, path: Path) -> Value:
+        """A part of what a local holds. That of an enum is its tag, or a variant and a field."""
+        while path and not isinstance(value, Undefined):
+            step, *rest = path
+            if isinstance(value, Choice) and not rest:
+                value = number(value.variant, 8)
+            elif isinstance(value, Choice):
+                value, rest = value.fields[rest[0] - 1] if step == value.variant else Undefined(), rest[1:]
+            elif isinstance(value, Parts):
+                value = value.parts[step]
+            elif isinstance(value, Expression) and isinstance(value.type, Struct):
+                if rest:  # the field of a variant
+                    step, *rest = 1, *rest[1:]
+                value = member(value, *value.type.members[step], True)
+            else:
+                raise Unknown(f"{self.path}: part {step} of {value}")
+            path = tuple(rest)
+        return value
+
+    # ---- Variables
+
+    def set(self, leaf: Leaf, own: Variable, value: Expression) -> None:
+        own.is_set = True
+        leaf.code.append(Set(variable(own), value))
+        leaf.forget(lambda fact: own in fact.variables())
+        leaf.pointers = {e: held for e, held in leaf.pointers.items() if own not in held.variables() | e.variables()}
+
+    def variable_for(self, e: Expression, name: str, leaf: Leaf, may_reuse: bool = False) -> Expression:
+        """A variable with this value: a new one, or one of this name that nothing reads any more."""
+        if not name and isinstance(e.type, Struct):
+            name = forms.local_name(e.type.text)
+        old = leaf.scope.get(name) if may_reuse else None
+        if old and old.type == e.type and not old.is_in_memory and old not in leaf.variables():
+            self.set(leaf, old, e)
+            return variable(old)
+        own = Variable(name, e.type, is_temporary=not may_reuse)
+        leaf.code.append(Declare(own, e))
+        leaf.scope[name] = own
+        return variable(own)
+
+    def named_pointer(self, pointer: Expression, leaf: Leaf, name: str) -> Expression:
+        """A pointer that is used several times, as a variable."""
+        if pointer not in leaf.pointers:
+            leaf.pointers[pointer] = self.variable_for(pointer, name, leaf, True)
+        return leaf.pointers[pointer]
+
+    def set_all(self, values: dict[Variable, Expression], leaf: Leaf) -> None:
+        """Sets variables, each before what it reads is changed. What else still reads them becomes a variable before."""
+        waiting = {own: e for own, e in values.items() if e != variable(own)}
+        for e in dict.fromkeys(e for e in leaf.expressions() if not e.variables().isdisjoint(waiting)):
+            new = self.variable_for(e, "", leaf)
+            leaf.change(lambda own: own.replaced(e, new))
+        while waiting:
+            free = [own for own in waiting if not any(own in e.variables() for other, e in waiting.items() if other is not own)]
+            if free:
+                self.set(leaf, free[0], waiting.pop(free[0]))
+                continue
+            own = next(iter(waiting))
+            old = self.variable_for(variable(own), own.name, leaf)
+            waiting = {other: e.replaced(variable(own), old) for other, e in waiting.items()}
+
+    # ---- Writes
+
     def keep(self, leaf: Leaf) -> None:
         """Before memory changes, what was to be read from it is read."""
         while found := next((e for value in leaf.env.values() if not isinstance(value, (Bytes, InMemory))
@@ -44,9 +185,8 @@ class Memory(Places):
 
     def store_at(self, where: Where, value: Value, leaf: Leaf) -> None:
         type, pointer = where.type, where.pointer
-        if where.struct is not None:
-            name, form = self.library.struct(where.struct).members[where.member]
-            self.store_member(pointer, name, form, value, leaf)
+        if where.member is not None:
+            self.store_member(where.member, value, leaf)
         elif type.word == "Vector":
             self.store_vector(self.named_pointer(pointer, leaf, "place"), parts_of(value), leaf)
         elif type.bits and type.bits // 8 == pointer.type.size:
@@ -59,14 +199,13 @@ class Memory(Places):
                 self.store(place, part, leaf)
         elif type.word == "Named" and isinstance(value, Parts):
             for part, (name, form) in zip(value.parts, self.library.struct(type).members, strict=True):
-                self.store_member(pointer, name, form, part, leaf)
+                self.store_member(member(pointer, name, form, False), part, leaf)
         elif type.word == "Named":
             self.store(Expression("deref", self.library.struct(type), (pointer,)), value, leaf)
         else:
             raise Unknown(f"{self.path}: a write of {type}")
 
-    def store_member(self, base: Expression, name: str, form: object, value: Value, leaf: Leaf) -> None:
-        place = member(base, name, form, False)
+    def store_member(self, place: Value, value: Value, leaf: Leaf) -> None:
         if isinstance(place, Bytes):
             self.store_bytes(place.pointer, value, place.count, leaf)
         else:
@@ -75,11 +214,10 @@ class Memory(Places):
     def store_vector(self, pointer: Expression, words: tuple[Value, ...], leaf: Leaf) -> None:
         """All words are read before one is written, unless each is read where it is written."""
         places = [at(pointer, number(4 * i, 64)) for i in range(len(words))]
-        if any(part.args[0] != place for e, place in zip(words, places) for part in e.parts() if part.word == "load"):
+        if any(part.args[2] != place for e, place in zip(words, places) for part in e.parts() if part.args[0] == "skh_load32"):
             words = tuple(self.variable_for(e, "word", leaf) for e in words)
-        self.keep(leaf)
         for place, word in zip(places, words):
-            leaf.code.append(Do(call("skh_store32", VOID, [place, word], CHANGES)))
+            self.do("skh_store32", [place, word], leaf)
 
     def store_bytes(self, pointer: Expression, value: Value, count: int, leaf: Leaf) -> None:
         if pointer.type.size != 1:
@@ -91,13 +229,12 @@ class Memory(Places):
         elif isinstance(value, Parts) and all(value_of(part) == 0 for part in value.parts):
             self.do("memset", [pointer, number(0, 32), number(count, 64)], leaf)
         elif isinstance(value, Spelled) and 8 * count == value.number.type.bits and count in (8, 16):
-            self.keep(leaf)
             words = [value.number]
             if count == 16:
                 whole = words[0] if weight(words[0]) == 0 else self.variable_for(words[0], "number", leaf)
                 words = [convert(whole, 64), convert(operation(">>", whole, number(64, 128)), 64)]
             for i, each in enumerate(words):
-                leaf.code.append(Do(call("skh_store64", VOID, [at(pointer, number(8 * i, 64)), each], CHANGES)))
+                self.do("skh_store64", [at(pointer, number(8 * i, 64)), each], leaf)
         else:
             raise Unknown(f"{self.path}: a write of {count} bytes")
 
@@ -107,8 +244,7 @@ class Memory(Places):
         """An array of C, whose address may be passed on."""
         if type.word != "Array" or type.of.bits not in (8, 32, 64):
             raise Unknown(f"{self.path}: {name or 'a local'} of {type} in memory")
-        text = "unsigned char" if type.of == BYTE else f"uint{type.of.bits}_t"
-        own = Variable(name, Pointer(text, 0, type.of.bits // 8, is_array=True), type.count, is_in_memory=True)
+        own = Variable(name, forms.pointer_to(type, False, False, self.library.struct), type.count, is_in_memory=True)
         if isinstance(value, Spelled):
             own.is_set, own.name = True, name or "bytes"
             leaf.code.append(Declare(own, None))
@@ -127,17 +263,14 @@ class Memory(Places):
         own.is_set = True
         leaf.code.append(Declare(own, None))
         for part, (name, form) in zip(value.parts, own.type.members, strict=True):
-            self.store_member(variable(own), name, form, part, leaf)
+            self.store_member(member(variable(own), name, form, False), part, leaf)
 
     def address(self, where: Where) -> Value:
-        if where.pointer is None:
-            return ToLocal(where.key, where.path)
-        value = where.pointer if where.struct is None else self.member(where)
-        if isinstance(value, Bytes):
-            return value.pointer
-        if where.struct is not None:
+        if isinstance(where.member, Bytes):
+            return where.member.pointer
+        if where.member is not None:
             raise Unknown(f"{self.path}: the address of a member")
-        return value
+        return ToLocal(where.key, where.path) if where.pointer is None else where.pointer
 
     def pointer(self, value: Value, leaf: Leaf) -> Expression:
         """A pointer of C. A local that it points to is placed in memory."""
@@ -149,7 +282,7 @@ class Memory(Places):
             held = leaf.env[value.key] = InMemory(held.args[0])
         if isinstance(held, InMemory) and not value.path:
             own = held.variable
-            return variable(own) if own.count else Expression("address", Pointer(own.type.text, 0, 0), (own,))
+            return variable(own) if own.count else Expression("address", Pointer(own.type.text, 0, 0), (variable(own),))
         at = (self.frames[value.key[0] - 1].function.path, value.key[1])
         if value.path or at in self.in_memory:
             raise Unknown(f"{self.path}: a pointer to {value}")
@@ -166,14 +299,15 @@ class Memory(Places):
         where = self.locate(frame, s.place, leaf)
         self.prune(frame, s, leaf)
         if where.pointer is None:
-            leaf.env[where.key] = put(leaf.env[where.key], where.path, value)
+            leaf.put(where.key, where.path, value)
         else:
             self.store_at(where, value, leaf)
 
-    def prune(self, frame: Frame, s: Statement, leaf: Leaf) -> None:
-        """Forgets locals that are not read any more."""
+    def prune(self, frame: Frame, s: Statement, leaf: Leaf) -> set[Key]:
+        """Forgets all locals but those that are still read, which it returns."""
         keep = {(frame.number, local) for local in s.after} | frame.caller_keys
         leaf.env = {key: value for key, value in leaf.env.items() if key in keep}
+        return keep
 
     def define(self, frame: Frame, local: int, value: Value, leaf: Leaf, reads: int) -> None:
         """Gives a local its value: as a variable of C, if it has a name or is read several times."""
@@ -197,7 +331,7 @@ class Memory(Places):
         def settle(e: Expression) -> Expression:
             if weight(e) <= most or may_be_inside or is_step(e):
                 return e
-            return self.variable_for(e, names[is_slice and e.type.bits > 0], leaf, is_named and isinstance(value, Expression))
+            return self.variable_for(e, names[is_slice and e.type.bits > 0], leaf, is_named)
 
         leaf.env[key] = changed(value, settle)
 
@@ -210,14 +344,12 @@ class Memory(Places):
         for before, e, name in zip(olds, values, names, strict=False):
             if before is not None:
                 own = before.args[0]
-                if e != before:
-                    waiting[own] = e
-            elif e.word == "variable" and not e.args[0].is_in_memory and e.args[0] not in leaf.variables():
-                own = e.args[0]  # nothing else holds it
+                waiting[own] = e
+            elif is_free(e, leaf.variables()):
+                own = e.args[0]
             else:
                 own = Variable(name, e.type)
                 leaf.code.append(Declare(own, e))
             out.append(variable(own))
-        self.make_way(set(waiting), leaf)
         self.set_all(waiting, leaf)
         return Parts(tuple(out)) if isinstance(value, Parts) else out[0]

@@ -4,10 +4,9 @@ The docs of the classes say what each word of the format is taken to mean. Any o
 """
 from __future__ import annotations
 
-import json
-import pathlib
 from dataclasses import dataclass, field
-from typing import Any, Iterator, NamedTuple
+from functools import cache
+from typing import Any, Iterator, NamedTuple, Sequence
 
 
 class Unknown(Exception):
@@ -95,23 +94,6 @@ def read_type(token: Any) -> Type:
     raise Unknown(f"type {word} {str(of)[:80]}")
 
 
-class Dict(NamedTuple):
-    """An implementation of a trait, as an argument: one of a crate, or by its index one that the caller was given."""
-
-    name: str | int
-    types: tuple[Type, ...] = ()
-    dicts: tuple[Dict, ...] = ()
-
-
-def read_dict(token: Any) -> Dict:
-    word, of = word_of(token)
-    if word == "Impl":
-        return Dict(of[0], read_all(read_type, of[1]), read_all(read_dict, of[2]))
-    if word == "Given" and isinstance(of, int):
-        return Dict(of)
-    raise Unknown(f"an implementation as {word}")
-
-
 class Given(NamedTuple):
     """The arguments of an instance of a generic function."""
 
@@ -127,13 +109,31 @@ class Given(NamedTuple):
         return self.types[own.args[0]] if own.word == "Param" else Type(own.word, self.type(own.args))
 
     def dict(self, own: Dict) -> Dict:
-        if isinstance(own.name, int):
-            return self.dicts[own.name]
-        return Dict(own.name, self.type(own.types), tuple(map(self.dict, own.dicts)))
+        return self.dicts[own.name] if isinstance(own.name, int) else Dict(own.name, self.inside(own.given))
 
     def inside(self, of: Given) -> Given:
         """The arguments of a call inside of this instance."""
         return Given(self.type(of.types), tuple(map(self.dict, of.dicts)))
+
+
+class Dict(NamedTuple):
+    """An implementation of a trait, as an argument: one of a crate, or by its index one that the caller was given."""
+
+    name: str | int
+    given: Given = Given()
+
+
+def read_given(types: list[Any], dicts: list[Any]) -> Given:
+    return Given(tuple(map(read_type, types)), tuple(map(read_dict, dicts)))
+
+
+def read_dict(token: Any) -> Dict:
+    word, of = word_of(token)
+    if word == "Impl":
+        return Dict(of[0], read_given(of[1], of[2]))
+    if word == "Given" and isinstance(of, int):
+        return Dict(of)
+    raise Unknown(f"an implementation as {word}")
 
 
 class Step(NamedTuple):
@@ -221,7 +221,7 @@ def read_assign(place: Place, token: Any) -> Statement:
 
 def read_callee(token: Any) -> tuple[Any, Given]:
     word, of = word_of(token)
-    given = Given(read_all(read_type, of[-1]["types"]), read_all(read_dict, of[-1]["dicts"]))
+    given = read_given(of[-1]["types"], of[-1]["dicts"])
     if word == "Fn":
         return of[0], given
     if word == "Method":
@@ -284,7 +284,6 @@ class Crates:
 
     def __init__(self, functions: list[tuple[str, Any]]):
         self.tokens = dict(functions)
-        self.read: dict[str, Function] = {}
         self.shapes: dict[str, Any] = {}
         self.methods: dict[tuple[str, int], str] = {}
         for path, token in functions:
@@ -293,12 +292,11 @@ class Crates:
                 self.methods[tuple(of["Impl"])] = path
             self.shapes |= {own["name"]: own["shape"] for own in token["types"]}
 
+    @cache
     def function(self, path: str) -> Function:
         if path not in self.tokens:
             raise Unknown(f"function {path}, which no crate has")
-        if path not in self.read:
-            self.read[path] = read_function(path, self.tokens[path])
-        return self.read[path]
+        return read_function(path, self.tokens[path])
 
     def resolve(self, call: Statement, given: Given) -> tuple[str, Given]:
         """The path of what is called inside of an instance, and its arguments."""
@@ -308,20 +306,14 @@ class Crates:
         own = given.dict(callee[0])
         if (own.name, callee[1]) not in self.methods:
             raise Unknown(f"method {callee[1]} of {own.name}")
-        return self.methods[own.name, callee[1]], Given(own.types + more.types, own.dicts + more.dicts)
+        return self.methods[own.name, callee[1]], Given(own.given.types + more.types, own.given.dicts + more.dicts)
 
-    def shape(self, type: Type) -> tuple[str, list[Any]]:
+    def shape(self, type: Type) -> tuple[str, Sequence[Any]]:
         """Fields and their types, or Variants and the types of the fields of each."""
         if type.name not in self.shapes:
             raise Unknown(f"the shape of {type.name or type}")
-        word, of = word_of(self.shapes[type.name])
-        given = Given(type.args[1])
-        if word == "Fields":
-            return word, [given.type(read_type(own)) for own in of]
-        if word == "Variants":
-            return word, [[given.type(read_type(own)) for own in each] for each in of]
-        raise Unknown(f"{type.name} has {word}")
-
-
-def read_crates(folders: list[pathlib.Path]) -> Crates:
-    return Crates([own for folder in folders for own in json.loads((folder / "toolchain/mir.json").read_text())])
+        (word, of), given = word_of(self.shapes[type.name]), Given(type.args[1])
+        if word not in ("Fields", "Variants"):
+            raise Unknown(f"{type.name} has {word}")
+        fields = [given.type(read_all(read_type, each)) for each in (of if word == "Variants" else [of])]
+        return word, fields if word == "Variants" else fields[0]

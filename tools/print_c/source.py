@@ -9,18 +9,16 @@ import re
 from dataclasses import dataclass, field
 from itertools import accumulate
 
-HEAD = re.compile(r"^( *)(?:pub(?:\([\w ]+\))? )?(?:final )?(?:const )?(?:unsafe )?(?:extern \"C\" )?fn (\w+)")
-IMPL = re.compile(r"^impl(?:<[^>]*>)? (?:(\w+)(?:<.*>)? for )?(&?\[?\w+\]?)|^pub trait (\w+)")
+HEAD = re.compile(r"^( *)(?:[\w()\" ]+ )?fn (\w+)")
+IMPL = re.compile(r"^(?:impl(?:<[^>]*>)?|pub trait) (?:(\w+)(?:<.*>)? for )?(\w+)")
 BINDING = re.compile(
-    r"\blet (?:mut )?(?P<let>(?:\w+)?(?:[(\[].*?[)\]])?)(?:: [^=;]+)? = (?!=)"
+    r"\blet (?:mut )?(?P<let>(?:\w+)?(?:[(\[].*?[)\]])?)(?:: [^=;]+)? = "
     r"|\bfor (?P<each>\w+) in (?P<over>[^\n]*?) \{"
-    r"|(?P<arms>(?:^|(?<=\{)|(?<=,))\s*[\w:]+\((?:\w+|\(\)|_)\)(?: \| [\w:]+\(\w+\))*) =>"
-    r"|(?P<set>^\s*\((?:self\.)?\w+(?:, (?:self\.)?\w+)+\)) = "
+    r"|(?P<arms>[\w:]+\((?:\w+|\(\))\)) =>"
     r"|(?P<try>\?)(?=[;.)])", re.M)
 CALL = re.compile(r"\b([a-z]\w*)(?:::<[^>]*>)?\(")
-CLOSURE = re.compile(r"\|[^|\n]*\| (?:\{.*?\n\s*\}|[^\n]*)", re.S)
 STATEMENT_END = re.compile(r"[;{]\n|\n\n|\Z")
-SIGNATURE = re.compile(r"\bfn \w+(?:<.*?>)?\((.*?)\)(?: -> | requires | ensures | \{|;)")
+SIGNATURE = re.compile(r"\bfn \w+(?:<.*?>)?\((.*?)\)[ ;]")
 MEMBER = re.compile(r"^ +(?:pub(?:\(\w+\))? )?(\w+):", re.M)
 
 
@@ -48,30 +46,19 @@ def paragraphs(lines: list[str]) -> list[str]:
     return [" ".join(own.split("\n")).strip() for own in re.split(r"\n\n+", plain) if own.strip()]
 
 
-def names_in(pattern: str) -> list[str | None]:
-    return [word for word in re.findall(r"(?<![\w:])[a-z]\w*(?!\w|::|\()", pattern) if word not in ("mut", "ref")]
-
-
 def bindings(text: str) -> list[tuple[int, list[str | None]]]:
     """The place of each pattern, and the names that it binds, None for a local without a name."""
     out: list[tuple[int, list[str | None]]] = []
     for match in BINDING.finditer(text):
+        names: list[str | None] = re.findall(r"\b(?!mut\b)[a-z]\w*(?!\w|::|\()", match["let"] or match["arms"] or "")
         if match["each"]:
             names = [None] * (".." not in match["over"]) + [match["each"]]
-        elif match["set"]:
-            names = [None] * (match["set"].count(",") + 1)
-        else:
-            names = [None, None] if match["try"] else names_in(match["let"] or match["arms"])
-        out.append((match.start(), names))
+        out.append((match.start(), [None, None] if match["try"] else names))
     return out
 
 
-def blank(found: re.Match[str]) -> str:
-    return re.sub(r"[^\n]", " ", found[0])
-
-
 def read_body(own: Source, body: list[str]) -> None:
-    code = CLOSURE.sub(blank, "\n".join(re.sub(r"//.*", blank, line) for line in body))
+    code = "\n".join(re.sub(r"//.*", lambda found: " " * len(found[0]), line) for line in body)
     bound = bindings(code)
     starts = list(accumulate((len(line) + 1 for line in body), initial=0))
     is_comment = [line.lstrip().startswith("//") for line in body] + [False]
@@ -98,10 +85,7 @@ def read_function(lines: list[str], at: int, start: int, end: int) -> Source:
     own.requires = "\n".join(re.findall(r"requires \w* ?(\{.*?\})$", signature, re.M))
     inside = SIGNATURE.search(re.sub(r"\n\s*", " ", signature).replace("( ", "(").replace(", )", ")"))
     for each in re.split(r", (?![^\[(<]*[\])>])", inside[1]) if inside and inside[1] else []:
-        name = each.split(":")[0]
-        own.parameters.append(name.replace("mut ", "").replace("&", "").strip())
-        if name.startswith("mut ") and ": &" in each:
-            own.bound.append(own.parameters[-1])
+        own.parameters.append(each.split(":")[0].replace("mut ", "").replace("&", "").strip())
     read_body(own, lines[start + 1:end])
     return own
 
@@ -130,28 +114,20 @@ class Sources:
         while at < len(lines):
             impl, head, start = IMPL.match(lines[at]), HEAD.match(lines[at]), at
             if impl or lines[at] == "}":
-                owner = "" if not impl else f"{impl[3] or type_name(impl[2])}{impl[1] or ''}::"
+                owner = f"{impl[2]}{impl[1] or ''}::" if impl else ""
             if head:
                 while lines[start] != head[1] + "{" and not lines[start].endswith((" {", ";", "{}")):
                     start += 1
                 end = lines.index(head[1] + "}", start) if lines[start].endswith("{") else start
-                self.functions[f"{module}::{owner if head[1] else ''}{head[2]}"] = read_function(lines, at, start, end)
+                self.functions[f"{module}::{owner}{head[2]}"] = read_function(lines, at, start, end)
                 at = end
             at += 1
 
     def of(self, path: str) -> Source:
-        """A method may stand in another file than its type. One of a trait says what the trait does."""
+        """A method may stand in another file than its type."""
         crate, (owner, name) = path.split("::")[0], path.split("::")[-2:]
         if path not in self.functions:
             found = [own for other, own in self.functions.items()
                      if other.startswith(crate) and other.endswith(f"::{owner}::{name}")]
             return found[0] if len(found) == 1 else Source()
-        own = self.functions[path]
-        traits = {other.split("::")[-2]: each.about for other, each in self.functions.items() if other.endswith(f"::{name}")}
-        of_trait = (about for trait, about in traits.items() if trait != owner and owner.endswith(trait))
-        own.about = own.about or next(of_trait, [])
-        return own
-
-
-def type_name(text: str) -> str:
-    return text if text[0].isupper() else text.upper() if len(text) < 4 else text
+        return self.functions[path]

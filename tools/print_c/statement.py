@@ -1,6 +1,7 @@
 """Statements of C, and how they become shorter."""
 from __future__ import annotations
 
+from collections import Counter
 from dataclasses import dataclass
 from typing import Callable, Iterable, Iterator
 
@@ -39,17 +40,16 @@ class When(Node):
     condition: Expression
     yes: list[Node]
     no: list[Node]
-    expected: bool | None = None
+    expected: str = ""  # the macro that says so
 
 
 @dataclass(eq=False)
 class While(Node):
-    """`step` is what a `for` does at the end of each turn, `first` its first statement."""
+    """`counter` is what a `for` declares, and counts up at the end of each turn."""
 
     condition: Expression | None
     body: list[Node]
-    first: Declare | None = None
-    step: Set | None = None
+    counter: Declare | None = None
 
 
 @dataclass(eq=False)
@@ -78,8 +78,8 @@ def all_nodes(nodes: list[Node]) -> Iterator[Node]:
         yield node
         for inner in lists_of(node):
             yield from all_nodes(inner)
-        if isinstance(node, While):
-            yield from filter(None, (node.first, node.step))
+        if isinstance(node, While) and node.counter:
+            yield node.counter
 
 
 def size(nodes: list[Node]) -> int:
@@ -92,7 +92,7 @@ def change(node: Node, new: Callable[[Expression], Expression]) -> None:
         node.value = list(map(new, node.value))
     elif isinstance(node, (Declare, Set, Give)) and node.value is not None:
         node.value = new(node.value)
-    if isinstance(node, Set) and node.place.word != "variable":
+    if isinstance(node, Set):
         node.place = node.place.changed(new)
     elif isinstance(node, Do):
         node.call = new(node.call)
@@ -107,103 +107,80 @@ def expressions_of(node: Node) -> list[Expression]:
 
 
 def ends(nodes: list[Node]) -> bool:
-    """Whether nothing after these is reached."""
-    last = nodes[-1] if nodes else None
-    return isinstance(last, (Give, Break)) or isinstance(last, When) and ends(last.yes) and ends(last.no)
+    """Whether nothing after these is reached. If both arms end, tidy has put the second one after the first."""
+    return bool(nodes) and isinstance(nodes[-1], (Give, Break))
 
 
-def reads_of(nodes: list[Node]) -> dict[Variable, int]:
+def reads_of(nodes: list[Node]) -> Counter[Variable]:
     """How often variables are read."""
-    reads: dict[Variable, int] = {}
-    for node in all_nodes(nodes):
-        for e in expressions_of(node):
-            for part in e.parts():
-                if part.word in ("variable", "address"):
-                    reads[part.args[0]] = reads.get(part.args[0], 0) + 1
-    return reads
+    parts = (part for node in all_nodes(nodes) for e in expressions_of(node) for part in e.parts())
+    return Counter(part.args[0] for part in parts if part.word == "variable")
 
 
 def must_be_declared(nodes: list[Node], known: Iterable[Variable]) -> None:
     """What is read or set is declared before it, in the same block or around it."""
     seen = set(known)
     for node in nodes:
-        inner, last = seen, []
-        if isinstance(node, While) and node.first and node.step:
-            must_be_declared([node.first], seen)
-            inner, last = seen | {node.first.variable}, [node.step]
+        inner = seen
+        if isinstance(node, While) and node.counter:
+            must_be_declared([node.counter], seen)
+            inner = seen | {node.counter.variable}
         places = [node.place] if isinstance(node, Set) else []
         for part in (part for e in expressions_of(node) + places for part in e.parts()):
-            if part.word in ("variable", "address") and part.args[0] not in inner:
+            if part.word == "variable" and part.args[0] not in inner:
                 raise Unknown(f"a variable outside of its block: {part.args[0].name}")
         for each in lists_of(node):
-            must_be_declared(each + last, inner)
+            must_be_declared(each, inner)
         if isinstance(node, Declare):
             seen.add(node.variable)
 
 
+def rewritten(nodes: list[Node], rule: Callable[[Node, Node | None], list[Node]]) -> list[Node]:
+    """With what a rule makes of each statement and the next one, from the inside out."""
+    out: list[Node] = []
+    for node, following in zip(nodes, [*nodes[1:], None]):
+        for each in lists_of(node):
+            each[:] = rewritten(each, rule)
+        out += rule(node, following)
+    return out
+
+
 def without_unread(nodes: list[Node]) -> list[Node]:
     """Without variables that nobody reads, and conditions on which nothing depends. A call that has an effect is kept."""
-    while True:
-        reads, count = reads_of(nodes), size(nodes)
+    reads, count = reads_of(nodes), size(nodes)
 
-        def keep(inner: list[Node]) -> list[Node]:
-            out: list[Node] = []
-            for node in inner:
-                own = node.variable if isinstance(node, Declare) else \
-                    node.place.args[0] if isinstance(node, Set) and node.place.word == "variable" else None
-                if own is not None and own not in reads and not own.is_in_memory:
-                    out += [Do(e) for e in expressions_of(node) if e.effect() == CHANGES]
-                    continue
-                for each in lists_of(node):
-                    each[:] = keep(each)
-                if not isinstance(node, When) or node.yes or node.no:
-                    out.append(node)
-            return out
+    def read_or_done(node: Node, _: Node | None) -> list[Node]:
+        own = node.variable if isinstance(node, Declare) else \
+            node.place.args[0] if isinstance(node, Set) and node.place.word == "variable" else None
+        if own is not None and own not in reads and not own.is_in_memory:
+            return [Do(e) for e in expressions_of(node) if e.effect() == CHANGES]
+        return [node] if not isinstance(node, When) or node.yes or node.no else []
 
-        nodes = keep(nodes)
-        if size(nodes) == count:
-            return nodes
+    out = rewritten(nodes, read_or_done)
+    return out if size(out) == count else without_unread(out)
 
 
 def inline_once(nodes: list[Node]) -> list[Node]:
-    """A value without a name that only the next statement reads, once, is written there."""
+    """A value without a name that only the next statement reads, once, is written there. So is one that it returns."""
     reads = reads_of(nodes)
 
-    def may_be_in(node: Declare, following: Node | None) -> bool:
-        own = variable(node.variable)
-        if following is None or isinstance(following, While) or not isinstance(node.value, Expression):
-            return False
-        if not node.variable.is_temporary or node.variable.is_set or reads.get(node.variable, 0) != 1:
-            return False
-        if node.value.effect() == CHANGES:  # nothing else is computed there, before it or after it
-            return own in expressions_of(following) and len(expressions_of(following)) == 1
-        return any(own in e.parts() for e in expressions_of(following))
+    def inlined(node: Node, following: Node | None) -> list[Node]:
+        if isinstance(node, Declare) and isinstance(node.value, Expression) and following is not None:
+            own, read = node.variable, [part for e in expressions_of(following) for part in e.parts()]
+            is_once = own.is_temporary and not own.is_set and reads[own] == 1 and variable(own) in read
+            if is_once or isinstance(following, Give) and following.value == variable(own):
+                change(following, lambda e: e.replaced(variable(own), node.value))
+                return []
+        return [node]
 
-    def walk(inner: list[Node]) -> list[Node]:
-        out: list[Node] = []
-        for i, node in enumerate(inner):
-            following = next((own for own in inner[i + 1:] if not isinstance(own, Comment)), None)
-            if isinstance(node, Declare) and may_be_in(node, following):
-                change(following, lambda e: e.replaced(variable(node.variable), node.value))
-                continue
-            for each in lists_of(node):
-                each[:] = walk(each)
-            out.append(node)
-        return out
-
-    return walk(nodes)
+    return rewritten(nodes, inlined)
 
 
 def arranged(node: When, is_last: bool) -> When:
-    """The arm that leaves is the first, without `!` if there is a choice. A condition in a condition is one by &&."""
+    """The arm that leaves is the first, without `!` if there is a choice."""
     condition, yes, no = node.condition, tidy(node.yes, is_last), tidy(node.no, is_last)
-    if not yes or ends(no) and not ends(yes) or ends(no) and ends(yes) and size(no) < size(yes):
+    if not yes or ends(no) and (not ends(yes) or size(no) < size(yes) + (condition.word == "!")):
         condition, yes, no = negate(condition), no, yes
-    if ends(yes) and ends(no) and condition.word == "!" and size(no) == size(yes):
-        condition, yes, no = negate(condition), no, yes
-    inner = yes[0] if len(yes) == 1 else None
-    if not no and isinstance(inner, When) and not inner.no:
-        condition, yes = Expression("&&", condition.type, (condition, inner.condition)), inner.yes
     return When(condition, yes, no)
 
 
@@ -211,31 +188,24 @@ def tidy(nodes: list[Node], is_last: bool = True) -> list[Node]:
     """Arms that leave take what follows out of the other arm; loops get their conditions and counters."""
     out: list[Node] = []
     nodes = list(nodes)
-    while nodes and not ends(out):
-        node = nodes.pop(0)
+    while nodes:
+        node, before = nodes.pop(0), out[-1] if out else None
         if isinstance(node, When):
             node = arranged(node, is_last and not nodes)
-            before = out[-1] if out else None
-            if isinstance(before, When) and not before.no and not node.no and gives(before.yes) == gives(node.yes) != []:
+            if isinstance(before, When) and not node.no and gives(before.yes) == gives(node.yes) != []:
                 before.condition = Expression("||", node.condition.type, (before.condition, node.condition))
                 continue
             if ends(node.yes):
                 node.no, nodes = [], node.no + nodes
         elif isinstance(node, While) and node.condition is None:
             node = loop(While(None, tidy(node.body, False)))
-            counter = node.body[-1] if node.body and node.condition is not None else None
-            if isinstance(counter, Set) and is_count(counter.place, counter.value):
-                first = next((own for own in out if isinstance(own, Declare) and counter.place == variable(own.variable)), None)
-                is_same = first and (first is out[-1] or value_of(first.value) is not None)  # its value, if it comes later
-                if is_same and first.variable not in reads_of(out[out.index(first) + 1:] + nodes):
-                    out.remove(first)
-                    node = While(node.condition, node.body[:-1], first, counter)
+            step = node.body[-1] if node.body and node.condition is not None else None
+            if isinstance(step, Set) and is_count(step) and isinstance(before, Declare) \
+                    and step.place == variable(before.variable) and before.variable not in reads_of(nodes):
+                out.pop()
+                node = While(node.condition, node.body[:-1], before)
         out.append(node)
-    last, before = out[-1] if out else None, out[-2] if len(out) > 1 else None
-    if isinstance(last, Give) and isinstance(before, Declare) and last.value == variable(before.variable) \
-            and isinstance(before.value, Expression):
-        out[-2:] = [Give(before.value)]
-    if is_last and isinstance(last, Give) and last.value is None:
+    if is_last and out and isinstance(out[-1], Give) and out[-1].value is None:
         out.pop()
     return out
 
@@ -245,9 +215,10 @@ def gives(nodes: list[Node]) -> list[Expression | None]:
     return [node.value for node in nodes if isinstance(node, Give) and len(nodes) == 1]
 
 
-def is_count(place: Expression, value: Expression) -> bool:
-    """i + 1"""
-    return value.word == "+" and value.args[0] == place and value_of(value.args[1]) == 1
+def is_count(node: Set) -> bool:
+    """i = i + 1, where C has ++"""
+    value = node.value
+    return value.word == "+" and value.args[0] == node.place and value_of(value.args[1]) == 1 and value.type.bits <= 64
 
 
 def loop(node: While) -> While:

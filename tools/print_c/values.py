@@ -2,7 +2,7 @@
 from __future__ import annotations
 
 from dataclasses import dataclass, field, replace
-from typing import Callable, Iterator
+from typing import Any, Callable, Iterator
 
 from expression import Expression, Variable, negate, value_of, variable
 from mir import Unknown
@@ -21,10 +21,10 @@ class Parts:
 
 @dataclass(frozen=True)
 class Choice:
-    """An enum: its tag, and the fields of each variant that it may be."""
+    """An enum of a variant that is known, and the fields of it."""
 
-    tag: Expression
-    fields: tuple[tuple[int, tuple[Value, ...]], ...]
+    variant: int
+    fields: tuple[Value, ...]
 
 
 @dataclass(frozen=True)
@@ -73,8 +73,7 @@ def changed(value: Value, change: Callable[[Expression], Expression]) -> Value:
     if isinstance(value, Parts):
         return Parts(tuple(changed(part, change) for part in value.parts))
     if isinstance(value, Choice):
-        fields = tuple((at, tuple(changed(part, change) for part in each)) for at, each in value.fields)
-        return Choice(change(value.tag), fields)
+        return Choice(value.variant, tuple(changed(part, change) for part in value.fields))
     if isinstance(value, Bytes):
         return Bytes(change(value.pointer), value.count)
     return Spelled(change(value.number)) if isinstance(value, Spelled) else value
@@ -85,6 +84,11 @@ def leaves(value: Value) -> Iterator[Expression]:
     found: list[Expression] = [variable(value.variable)] if isinstance(value, InMemory) else []
     changed(value, lambda e: found.append(e) or e)
     return iter(found)
+
+
+def common(several: list[dict[Any, Any]]) -> dict[Any, Any]:
+    """What all have alike."""
+    return {key: own for key, own in several[0].items() if all(other.get(key) == own for other in several)}
 
 
 def expression_of(value: Value) -> Expression:
@@ -125,7 +129,7 @@ def weight(e: Expression) -> int:
         return 0
     if e.word == "member" and e.args[0].word == "variable" and not e.reads_memory():
         return 0
-    if e.word in ("call", "load", "element", "member", "deref", "?", "any") or e.word == "cast" and e.type.bits == 0:
+    if e.word in ("call", "element", "member", "deref", "?", "any") or e.word == "cast" and e.type.bits == 0:
         return 99
     return sum(weight(arg) for arg in e.args if isinstance(arg, Expression)) + (e.word != "cast")
 
@@ -134,6 +138,11 @@ def is_step(e: Expression) -> bool:
     """A variable and a constant number after or before it."""
     is_one = e.word in ("at", "+", "-") or e.word == "cast" and e.type.bits > 0
     return is_one and e.args[0].word == "variable" and all(arg.word == "number" for arg in e.args[1:])
+
+
+def is_free(e: Expression, used: set[Variable]) -> bool:
+    """Whether it is a variable that may be set, since nothing else that is used has its value."""
+    return e.word == "variable" and not e.args[0].is_in_memory and e.args[0] not in used
 
 
 END, RETURN = "end", "return"
@@ -149,28 +158,25 @@ class Leaf:
     env: dict[Key, Value]
     code: list[Node]
     scope: dict[str, Variable]
-    facts: dict[Expression, bool] = field(default_factory=dict)
+    facts: frozenset[Expression] = frozenset()  # the conditions that hold
     target: str | int = END
     owned: dict[Key, Value] = field(default_factory=dict)  # the variables of locals that are set several times
-    pointers: list[tuple[Expression, Expression]] = field(default_factory=list)  # variables, and the pointers that they hold
+    pointers: dict[Expression, Expression] = field(default_factory=dict)  # the variables that hold them
 
     def at(self, code: list[Node], env: dict[Key, Value] | None = None) -> Leaf:
         """The same elsewhere in the text."""
         return replace(self, env=dict(self.env if env is None else env), code=code, scope=dict(self.scope),
-                       facts=dict(self.facts), owned=dict(self.owned), pointers=list(self.pointers))
+                       owned=dict(self.owned), pointers=dict(self.pointers))
 
-    def branch(self, condition: Expression, holds: bool, code: list[Node]) -> Leaf:
+    def branch(self, condition: Expression, code: list[Node]) -> Leaf:
         leaf = self.at(code)
-        leaf.facts[condition] = holds
+        leaf.facts |= {condition}
         return leaf
 
     def known(self, condition: Expression) -> bool | None:
         if value_of(condition) is not None:
             return bool(value_of(condition))
-        if condition in self.facts:
-            return self.facts[condition]
-        other = negate(condition)
-        return not self.facts[other] if other in self.facts else None
+        return True if condition in self.facts else False if negate(condition) in self.facts else None
 
     def change(self, change: Callable[[Expression], Expression]) -> None:
         self.env = {key: changed(value, change) for key, value in self.env.items()}
@@ -183,7 +189,7 @@ class Leaf:
         return {own for e in self.expressions() for own in e.variables()}
 
     def forget(self, is_stale: Callable[[Expression], bool]) -> None:
-        self.facts = {fact: holds for fact, holds in self.facts.items() if not is_stale(fact)}
+        self.facts = frozenset(fact for fact in self.facts if not is_stale(fact))
 
     def put(self, key: Key, path: Path, value: Value) -> None:
         self.env[key] = put(self.env[key], path, value)

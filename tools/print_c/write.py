@@ -8,8 +8,7 @@ from __future__ import annotations
 import textwrap
 from typing import Iterator
 
-from expression import (BOOL, INT, NUMBERS, CType, Expression, Pointer, Struct, base_and_offset, convert, divide, number,
-                        value_of)
+from expression import BOOL, INT, SIZE, CType, Expression, Pointer, convert, divide, number, value_of
 from forms import STATUSES
 from mir import Unknown
 from statement import Break, Comment, Declare, Do, Give, Node, Set, When, While
@@ -19,15 +18,10 @@ ROWS = ("", "||", "&&", "|", "^", "&", "== !=", "< <= > >=", "<< >>", "+ -", "* 
 LEVELS = {word: level for level, words in enumerate(ROWS) for word in words.split()}
 TERNARY, UNARY, POSTFIX = 0, 11, 12
 BITS = {"|", "^", "&", "<<", ">>"}  # beside which all other operators are set in brackets
+PREFIXES = {"address": "&", "deref": "*", "!": "!", "~": "~"}
 WIDE = {"+": "add", "*": "mul", "<<": "left", ">>": "right"}
 COMPARISONS = {"==", "!=", "<", "<=", ">", ">="}
 COLUMN_READS, COLUMN_WRITES = {4: "skh_get32", 8: "skh_get64"}, {8: "skh_set64"}  # by the size of an element
-
-
-def named(names: dict[int, str], size: int) -> str:
-    if size not in names:
-        raise Unknown(f"a column of {size} bytes an element")
-    return names[size]
 
 
 def is_int(e: Expression) -> bool:
@@ -62,12 +56,8 @@ class Writer:
             return text, LEVELS["<<"] if "<<" in text else POSTFIX
         if e.word == "variable":
             return e.args[0].name, POSTFIX
-        if e.word == "address":
-            return f"&{e.args[0].name}", UNARY
         if e.word == "at":
             return self.pointer(e)
-        if e.word == "load":
-            return f"skh_load{e.type.bits}({self.text(e.args[0])})", POSTFIX
         if e.word == "element":
             return self.element(e.args[0])
         if e.word == "member":
@@ -81,10 +71,8 @@ class Writer:
             return self.cast(e)
         if e.word == "~" and e.type.bits < 32:
             return f"({e.type.text})~{self.text(e.args[0], UNARY)}", UNARY
-        if e.word in ("!", "~"):
-            return f"{e.word}{self.text(e.args[0], UNARY)}", UNARY
-        if e.word == "deref":
-            return f"*{self.text(e.args[0], UNARY)}", UNARY
+        if e.word in PREFIXES:
+            return f"{PREFIXES[e.word]}{self.text(e.args[0], UNARY)}", UNARY
         if e.word == "?":
             return f"{self.text(e.args[0], 1)} ? {self.text(e.args[1], 1)} : {self.text(e.args[2])}", TERNARY
         if e.word in LEVELS:
@@ -110,13 +98,18 @@ class Writer:
         return f"{self.text(base, LEVELS['+'])} + {self.text(offset, LEVELS['+'] + 1)}", LEVELS["+"]
 
     def element(self, pointer: Expression) -> tuple[str, int]:
-        base, offset = base_and_offset(pointer)
+        base, offset = pointer.args if pointer.word == "at" else (pointer, number(0, 64))
         size = pointer.type.size // (pointer.type.inner or 1)
         if pointer.type.is_column:
-            return f"{named(COLUMN_READS, size)}({self.text(pointer)})", POSTFIX
-        if value_of(offset) == 0 and not pointer.type.is_array and base.word != "member" and size > 1:
+            return self.column(COLUMN_READS, size, pointer), POSTFIX
+        if value_of(offset) == 0 and not pointer.type.is_array and size > 1:
             return f"*{self.text(base, UNARY)}", UNARY
         return f"{self.text(base, POSTFIX)}[{self.text(divide(offset, size))}]", POSTFIX
+
+    def column(self, names: dict[int, str], size: int, *args: Expression) -> str:
+        if size not in names:
+            raise Unknown(f"a column of {size} bytes an element")
+        return f"{names[size]}({', '.join(map(self.text, args))})"
 
     def cast(self, e: Expression) -> tuple[str, int]:
         of, bits = e.args[0], e.type.bits
@@ -201,8 +194,8 @@ class Writer:
                 yield from self.lines(node.no, result, depth + 1)
             yield "}"
         elif isinstance(node, While):
-            if node.first and node.step:
-                yield f"for ({self.declaration(node.first)} {self.text(node.condition)}; {self.setting(node.step)[:-1]}) {{"
+            if node.counter:
+                yield f"for ({self.declaration(node.counter)} {self.text(node.condition)}; {node.counter.variable.name}++) {{"
             else:
                 yield f"while ({self.text(node.condition)}) {{" if node.condition is not None else "for (;;) {"
             yield from self.lines(node.body, result, depth + 1)
@@ -215,10 +208,7 @@ class Writer:
             raise Unknown(f"statement {node}")
 
     def condition(self, node: When) -> str:
-        text = self.text(node.condition)
-        if node.expected is None:
-            return text
-        return f"{'SKH_LIKELY' if node.expected else 'SKH_UNLIKELY'}({text})"
+        return f"{node.expected}({self.text(node.condition)})" if node.expected else self.text(node.condition)
 
     def assigned(self, e: Expression, type: CType) -> str:
         """A value in a place of a type: where C would cut it, it is cut by a cast."""
@@ -229,32 +219,24 @@ class Writer:
         if type.text == "size_t" and e.type.text == "uint64_t" and e.word != "number":
             return f"(size_t){self.text(e, UNARY)}"
         if type == INT and e.word == "number":
-            return self.status(e.args[0])
+            if e.args[0] not in STATUSES:
+                raise Unknown(f"status {e.args[0]}")
+            return STATUSES[e.args[0]]
         if type.bits in (8, 16) and e.type == BOOL:
             return f"({type.text}){self.text(e, UNARY)}"
         return self.text(e)
-
-    @staticmethod
-    def status(value: int) -> str:
-        signed = value - 2 ** 32 if value >= 2 ** 31 else value
-        if signed not in STATUSES:
-            raise Unknown(f"status {signed}")
-        return STATUSES[signed]
 
     def declaration(self, node: Declare) -> str:
         own, value = node.variable, node.value
         const, type = "" if own.is_set else "const ", own.type
         if own.count:
-            text, forms = f"{const}{type.text} {own.name}[{own.count}]", [NUMBERS[8 * type.size]] * own.count
-        elif isinstance(type, Pointer):
-            text, forms = type.declare(f"{const}{own.name}"), []
+            text = f"{const}{type.text} {own.name}[{own.count}]"
         else:
-            text = f"{const}{type.text} {own.name}"
-            forms = [form for _, form in type.members] if isinstance(type, Struct) else []
+            text = type.declare(f"{const}{own.name}") if isinstance(type, Pointer) else f"{const}{type.text} {own.name}"
         if value is None:
             return f"{text};"
         if isinstance(value, list):
-            return f"{text} = {{{', '.join(self.assigned(each, form) for each, form in zip(value, forms))}}};"
+            return f"{text} = {{{', '.join(self.assigned(each, each.type) for each in value)}}};"
         return f"{text} = {self.assigned(value, type)};"
 
     def setting(self, node: Set) -> str:
@@ -263,9 +245,8 @@ class Writer:
         if place.word == "element":
             pointer = place.args[0]
             if pointer.type.is_column:
-                name = named(COLUMN_WRITES, pointer.type.size // (pointer.type.inner or 1))
-                return f"{name}({self.text(pointer)}, {self.text(value)});"
-            type = CType("size_t", 64) if pointer.type.text == "size_t" else type
+                return f"{self.column(COLUMN_WRITES, pointer.type.size // (pointer.type.inner or 1), pointer, value)};"
+            type = SIZE if pointer.type.text == "size_t" else type
         text = self.text(place)
         if value.word in ("+", "-") and value.args[0] == place and value_of(value.args[1]) == 1 and type.bits in (32, 64):
             return f"{text}{value.word * 2};"
