@@ -78,7 +78,7 @@ WRONG_VERSION = ".intel_syntax noprefix; .globl sketch_hash_version; sketch_hash
 
 
 @pytest.mark.parametrize("text, change, status, output", [
-    (None, [], 0, "1 of 1 functions are as defined"), (None, ["-pg"], 3, "a call of mcount"),
+    (None, [], 0, "1 of 1 functions are as defined"), (None, ["-pg"], 3, "a call of"),
     (WRONG_VERSION, [], 1, "the result is not what the definitions say, with "),
     (WRONG_VERSION.replace("mov eax", "cmp edi"), [], 1, "the result is not what the definitions say, with "),
     (WRONG_VERSION.replace("mov eax, 1", "nop; call puts@PLT"), [], 3, "a call of puts"),

@@ -258,9 +258,9 @@ USES = {"linked": [], "namespace": ["-DXXH_NAMESPACE=mine_"], "inline": ["-DXXH_
 @pytest.mark.parametrize("use", USES)
 def test_a_program_for_xxhash_prints_the_same_with_our_header(use, compiler, archive, need, tmp_path):
     need(compiler, "gcc", "xxhash.h")
-    command = [compiler, "-O2", *(["-xc++", "-std=c++17"] if compiler == "g++" else STD), HERE / "drop_in.c", "-xnone"]
+    command = [compiler, "-O2", *(["-xc++", "-std=c++17"] if compiler == "g++" else STD), HERE / "drop_in.c"]
     output(*command, "-DXXH_STATIC_LINKING_ONLY", "-w", "-o", tmp_path / "theirs", "-lxxhash")
-    library = [] if "inline" in use else [archive("gcc", "-O2")]
+    library = [] if "inline" in use else ["-xnone", archive("gcc", "-O2")]
     output(*command, *USES[use], "-I", DROP_IN, "-I", INCLUDE, "-I", DIST, "-o", tmp_path / "ours", *library)
     assert output(tmp_path / "ours") == output(tmp_path / "theirs")
     assert "XXH" not in output("nm", "-g", tmp_path / "ours")
