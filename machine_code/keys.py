@@ -90,7 +90,7 @@ class Offsets(Subject):
 
 class Search(Offsets):
     """The loop that looks for the first wrong offset: IsFirstWrongOffset. `start` begins a call in which there is one, and
-    `last_ways` are those in which the last offset can be wrong: none if it is missing."""
+    `last_ways` are how the last offset can be wrong: "missing", "below" the one before it, "above" the length."""
 
     name = "search"
 

@@ -161,7 +161,8 @@ def ranges_of(places, hashes, small):
 
 
 def false_positive_rate(bits):
-    """The share of other keys that a filter finds: in each block the product of its eight words' shares of set bits."""
+    """The share of other keys that a filter finds: in each block the product of its eight words' shares of set bits.
+    No call for C returns it."""
     total = 0
     for begin in range(0, len(bits), 1 << 20):
         piece = bits[begin:begin + (1 << 20)]
