@@ -57,28 +57,34 @@ def others(byte):
         yield join(cut(byte, 0, i), complement(cut(byte, i, 1)), unknown("rest", 7 - i))
 
 
-def digits(size, top, ends=True):
-    """All numbers of so many bytes whose highest digit that is not 0 is this one; -1 is none. The last byte may not end it."""
+def digits(size, top, ends, fits):
+    """All numbers of so many bytes whose highest digit that is not 0 is this one; -1 is none. The last byte may not end it. Of
+    the fifth digit four bits fit into 32 bits."""
     values = [unknown(("digit", i), 7, int(i == top)) if i <= top else number(0, 7) for i in range(size)]
+    if top == 4:
+        values[4] = join(unknown(("digit", 4), 4, int(fits)), number(0, 3) if fits else unknown("above 32 bits", 3, 1))
     return [join(value, number(not ends or i < size - 1, 1)) for i, value in enumerate(values)]
+
+
+def numbers(size, tops, ends=True):
+    return (digits(size, top, ends, fits) for top in tops for fits in (True, False)[: 1 + (top == 4)])
 
 
 def any_numbers():
     for size in SIZES:
-        yield from (digits(size, top) for top in range(-1, size))
-    yield from (digits(5, top, ends=False) for top in range(-1, 5))
+        yield from numbers(size, range(-1, size))
+    yield from numbers(5, range(-1, 5), ends=False)
 
 
 def wrong_numbers():
     """With a last byte that is 0, or that does not end it; no multiple of 64; or above 32 bits."""
     for size in SIZES:
-        yield from (digits(size, top) for top in range(-1, size - 1))
+        yield from numbers(size, range(-1, size - 1))
         for i in range(6):
-            first, *rest = digits(size, size - 1)
-            yield [join(number(1 << i, i + 1), unknown("rest", 6 - i), cut(first, 7, 1)), *rest]
-    yield from ([*digits(4, 3, ends=False), join(unknown("low", i), number(1, 1), unknown("high", 6 - i), number(0, 1))]
-                for i in (4, 5, 6))
-    yield from (digits(5, top, ends=False) for top in range(-1, 5))
+            for first, *rest in numbers(size, [size - 1]):
+                yield [join(number(1 << i, i + 1), unknown("rest", 6 - i), cut(first, 7, 1)), *rest]
+    yield digits(5, 4, True, False)
+    yield from numbers(5, range(-1, 5), ends=False)
 
 
 def read(machine):

@@ -215,11 +215,19 @@ def shuffled_bytes(x, order):
     return join(*(number(0, 8) if n >> 7 else cut(x, 8 * (n & 15), 8) for n in places))
 
 
-@in_blocks
-def packed(x, y):
-    """The lower byte of each word that is known, or the nearest one without a sign."""
-    words = [signed(known(sign_extend(cut(value, at, 16), 64), "a lane")) for value in (x, y) for at in range(0, 128, 16)]
-    return join(*(number(max(0, min(word, 255)), 8) for word in words))
+def blended_bytes(x, y, mask):
+    """Bytes of the second where the highest bit of the mask's byte is known to be set, else of the first."""
+    return join(*(cut(y if known(cut(mask, at + 7, 1), "a lane's sign") else x, at, 8) for at in range(0, width_of(x), 8)))
+
+
+def packed(size, least, most):
+    """The lower half of each lane that is known, or the nearest of the numbers that are allowed."""
+    @in_blocks
+    def of(x, y):
+        lanes = [signed(known(sign_extend(cut(value, at, size), 64), "a lane")) for value in (x, y) for at in range(0, 128, size)]
+        return join(*(number(max(least, min(lane, most)), size // 2) for lane in lanes))
+
+    return of
 
 
 def differences(x, y):
@@ -317,11 +325,11 @@ PLAIN = SAME | {
     "psadbw": each(64, differences), "pmaddwd": each(32, pair_products), "cvttps2dq": each(32, to_whole),
     "pmuludq": each(64, lambda x, y: mul(extend(cut(x, 0, 32)), extend(cut(y, 0, 32)))),
     "pshufd": in_blocks(lambda x, n: picked(32, 4, x)(n)), "shufps": in_blocks(lambda x, y, n: picked(32, 4, x, y)(n)),
-    "pshufb": in_blocks(shuffled_bytes),
+    "pshufb": in_blocks(shuffled_bytes), "pblendvb": (3, blended_bytes),
     "pslldq": in_blocks(lambda x, n: shift_left(x, 8 * min(n, 16))),
     "psrldq": in_blocks(lambda x, n: shift_right(x, 8 * min(n, 16))),
     "palignr": in_blocks(lambda x, y, n: cut(extend(join(y, x), 512), 8 * min(n, 32), 128)),
-    "packuswb": packed,
+    "packuswb": packed(16, 0, 255), "packsswb": packed(16, -128, 127), "packssdw": packed(32, -2 ** 15, 2 ** 15 - 1),
     "shufi32x4": (3, shuffled_blocks), "shufi64x2": (3, shuffled_blocks),
     "kshiftrq": (2, lambda x, n: shift_right(x, min(n, 64))),
     **{f"punpck{half}{name}": interleaved(size, half == "h") for half in "lh"
