@@ -83,9 +83,10 @@ def block_of(hash):
     return as_value(FILTER.block_of(shift_right(any_length, 5), hash))
 
 
-class Bits:
-    """A filter, of which a call reaches the blocks of its keys. An insert is done with one before it reaches the next: so it
-    does not matter which of them are the same block. `hash` gives that of the key with an index."""
+class FilterBlocks:
+    """A filter, which is an array as machine.Array is one. A call reaches the blocks of its keys. An insert is done with one
+    before it reaches the next: so it does not matter which of them are the same block. `hash` gives that of the key with an
+    index."""
 
     def __init__(self, hash, is_writable):
         self.hash, self.is_writable, self.at, self.length = hash, is_writable, bits, any_length
@@ -157,7 +158,7 @@ class Values(Elements):
         value_count = n if self.is_insert else add(n, extend(unknown("more", 50)))
         run.give(Array("values", values, mul(value_count, number(self.width // 8))))
         run.target = run.give(Array("old", out, n, not self.is_insert))
-        run.filter = run.give(Bits(self.hash, self.is_insert))
+        run.filter = run.give(FilterBlocks(self.hash, self.is_insert))
         run.begin(function, arguments_of(function, bits=bits, length=any_length, values=values, hashes=values, found=out,
                                          value_count=value_count, hash_count=value_count, count=n))
         return run
@@ -188,7 +189,7 @@ class SingleKey(OneCall):
         super().__init__(machine, "xxh64", rest, per, of("xxh64", "start")(0), is_insert=is_insert, **others)
 
     def begin_call(self, run, n):
-        run.filter = run.give(Bits(lambda index: run.answer, self.is_insert))
+        run.filter = run.give(FilterBlocks(lambda index: run.answer, self.is_insert))
         run.begin(bloom_call(self.is_insert), [bits, any_length, input, n])
         return run
 
@@ -242,7 +243,7 @@ def one_key(machine, is_insert, function, arguments, hash):
     """A key with this hash, without a loop."""
     def run():
         run = machine()
-        run.filter = run.give(Bits(lambda index: hash, is_insert))
+        run.filter = run.give(FilterBlocks(lambda index: hash, is_insert))
         run.begin(function, [bits, any_length, *arguments])
         run.go()
         must_have_used(run, is_insert)
@@ -323,7 +324,7 @@ class KeyOfColumn(SingleKey):
         run, end = self.call.begin(number(1), number(2)), add(self.first, self.length(count))
         assume_at_most(end, self.call.length)
         self.call.set_offsets(run, number(0), self.first, end)
-        run.filter = run.give(Bits(lambda index: run.answer, self.is_insert))
+        run.filter = run.give(FilterBlocks(lambda index: run.answer, self.is_insert))
         return run
 
     def must_leave(self, run):
@@ -346,7 +347,7 @@ class Batches(Values):
         if offsets.least > 2:
             raise Stop("the loop over offsets is not reached with two keys")
         super().__init__(call.machine, call.is_insert, "", number(0), BATCH)
-        vars(self).update(offsets=offsets, call=call, key_size=key_size, bytes=key_size, length_bits=MOST[call.width],
+        vars(self).update(offsets=offsets, call=call, key_size=key_size, element_bytes=key_size, length_bits=MOST[call.width],
                           first=extend(unknown("start", MOST[call.width])),
                           left=add(extend(unknown("left", 5)), number(offsets.least)))
 
@@ -366,7 +367,7 @@ class Batches(Values):
     def start(self, count):
         n = self.number_of(count)
         run = self.offsets.subject.after(self.offsets, n)
-        run.filter = run.give(Bits(self.hash, self.is_insert))
+        run.filter = run.give(FilterBlocks(self.hash, self.is_insert))
         assume_at_most(self.offset(n), self.call.length)
         return run
 
@@ -403,7 +404,7 @@ def column(call, lengths):
 
     def run():
         run = call.machine()
-        filter = run.give(Bits(lambda index: FILTER.hash_of(keys[index[0][1]]), call.is_insert))
+        filter = run.give(FilterBlocks(lambda index: FILTER.hash_of(keys[index[0][1]]), call.is_insert))
         run.map(input, data)
         run.map(values, [number(offset, call.width) for offset in offsets])
         run.map(fault, [cut(old_fault, 0, run.size)], writable=True)

@@ -16,8 +16,8 @@ class Pieces(Subject):
 
     def __init__(self, hash, begin, rest, per, fill=0, **others):
         piece = PIECE[hash]
-        super().__init__(hash=hash, begin=begin, rest=rest, per=per, fill=fill, name=hash, piece=piece, bytes=piece,
-                         unit=per * piece, lead=-fill % piece, **others)
+        super().__init__(hash=hash, begin=begin, rest=rest, per=per, fill=fill, name=hash, piece=piece,
+                         element_bytes=piece, unit=per * piece, lead=-fill % piece, **others)
 
     def length(self, count):
         return add(add(mul(extend(count), number(self.unit)), number(self.lead)), self.rest)

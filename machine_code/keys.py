@@ -257,8 +257,8 @@ class Keys(Elements):
 
     def __init__(self, offsets, hash, per_key):
         call = offsets.subject.call
-        super().__init__(call.machine, number(0), 1, call=call, offsets=offsets, hash=hash, size=call.size, bytes=call.size,
-                         per_key=per_key, unit=per_key * PIECE[hash])
+        super().__init__(call.machine, number(0), 1, call=call, offsets=offsets, hash=hash, size=call.size,
+                         element_bytes=call.size, per_key=per_key, unit=per_key * PIECE[hash])
 
     def start(self, count):
         return self.offsets.subject.after(self.offsets, count)

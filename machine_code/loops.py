@@ -94,12 +94,12 @@ class Subject(Fixed):
     """
 
     name, per, optional = "loop", 1, 0
-    bytes, length_bits = 8, SIZE  # of the largest array: those of an element, and how many bits its length has
+    element_bytes, length_bits = 8, SIZE  # of the largest array: the size of an element, and how many bits its length has
     tries = 4, 8  # by calls with so many turns or more the head is found
 
     def some(self, what, least=0):
         """A number of turns."""
-        return extend(unknown((what, self.name), self.length_bits - (self.per * self.bytes - 1).bit_length(), least))
+        return extend(unknown((what, self.name), self.length_bits - (self.per * self.element_bytes - 1).bit_length(), least))
 
     def elements_written(self, run):
         """How many are written at the first arrival, if the loop writes any; else None."""

@@ -731,7 +731,7 @@ def block_at(i, n):
 @pytest.mark.parametrize("is_writable", [True, False])
 def test_a_call_is_within_the_blocks_of_its_keys(is_writable):
     """It may write the blocks of one key after the other, and read those of any."""
-    filter = filters.Bits(lambda index: unknown(("hash", index[0][1]), 64), is_writable)
+    filter = filters.FilterBlocks(lambda index: unknown(("hash", index[0][1]), 64), is_writable)
     assert filter.offset_of(block_at(0, 0), 32) == (0, 0) and filter.offset_of(block_at(0, 28), 4) == (0, 28)
     for outside in (block_at(0, 28), 5), (block_at(0, -1), 4), (calls.out, 4):
         assert filter.offset_of(*outside) is None

@@ -208,8 +208,8 @@ def aarch64_forms():
 
 def memory_forms():
     for name in "ldr str ldur stur ldrb strb ldrh strh ldrsb ldrsh ldrsw ldurb sturh ldursw".split():
-        places = "[x9]", "[x9,#16]", "[x9,#-1]", "[x9,x8]", "[x9,w8,uxtw]", *(f"[x9,{index} #{n}]" for index in ("x8,lsl", "w8,uxtw")
-                                                                                for n in range(1, 5))
+        shifted = (f"[x9,{index} #{n}]" for index in ("x8,lsl", "w8,uxtw") for n in range(1, 5))
+        places = "[x9]", "[x9,#16]", "[x9,#-1]", "[x9,x8]", "[x9,w8,uxtw]", *shifted
         for to, place in itertools.product(("x1", "w1", "q0", "d0", "s0", "b0"), places):
             yield f"mov x8,#2; {name} {to},{place}; mov x8,#0"
         yield from (f"mov x8,x9; {name} {to},{place}; sub x8,x8,x9; mov x1,x8; mov x8,#0"

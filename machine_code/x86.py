@@ -224,7 +224,8 @@ def packed(size, least, most):
     """The lower half of each lane that is known, or the nearest of the numbers that are allowed."""
     @in_blocks
     def of(x, y):
-        lanes = [signed(known(sign_extend(cut(value, at, size), 64), "a lane")) for value in (x, y) for at in range(0, 128, size)]
+        values = (cut(value, at, size) for value in (x, y) for at in range(0, 128, size))
+        lanes = [signed(known(sign_extend(value, 64), "a lane")) for value in values]
         return join(*(number(max(least, min(lane, most)), size // 2) for lane in lanes))
 
     return of
