@@ -1,7 +1,7 @@
 /* sketch_hash.c 3.2.0: printed from proved text. Do not edit it: tools/print_c prints it.
  *
  * crate     sketch_c, and those that it depends on, of which PROVED says more
- * text      04d63780984ea1d31860f2f01e8e3defb6d97567b80abd1ac70d7a64391f262d
+ * text      d3cd4ebdb6bd048f165e2212d71164d2a1cfbf91895d947612fd412a121b79c7
  * prover    rattle-kit-13f logic dac8208d650f15bf
  * licence   Apache-2.0
  */
@@ -366,7 +366,7 @@ SKH_INLINE struct skh_result skh_check_offset32(uint64_t bytes_length, const uin
     return skh_ok(place);
 }
 
-/* Checks one offset after another. It is a call of its own, since it finds which one is wrong. */
+/* Checks one offset after another. It is a call of its own, since it is rarely made. */
 static SKH_NOINLINE struct skh_result skh_check_each_offset32(uint64_t bytes_length,
                                                               const uint32_t *offsets,
                                                               uint64_t offsets_count,
@@ -415,7 +415,7 @@ SKH_INLINE struct skh_result skh_check_offset64(uint64_t bytes_length, const uin
     return skh_ok(place);
 }
 
-/* Checks one offset after another. It is a call of its own, since it finds which one is wrong. */
+/* Checks one offset after another. It is a call of its own, since it is rarely made. */
 static SKH_NOINLINE struct skh_result skh_check_each_offset64(uint64_t bytes_length,
                                                               const uint64_t *offsets,
                                                               uint64_t offsets_count,
@@ -511,8 +511,8 @@ SKH_INLINE uint64_t skh_xxh64_fold_below_16(uint64_t hash, const unsigned char *
     return skh_xxh64_fold_below_8(hash, tail, tail_length);
 }
 
-/* The hash after a tail of 16 bytes and more. Without a loop single keys of 16 and 24 bytes are
- * 10 % faster. Columns of mixed lengths are slower, so they use `skh_xxh64_fold_tail`. */
+/* The hash after a tail of 16 bytes and more. Without a loop keys of 16 and 24 bytes are 10 %
+ * faster. */
 SKH_INLINE uint64_t skh_xxh64_fold_from_16(uint64_t hash, const unsigned char *tail,
                                            uint64_t tail_length) {
     hash = skh_xxh64_eight_step(skh_xxh64_eight_step(hash, skh_load64(tail)), skh_load64(tail + 8));
@@ -719,17 +719,66 @@ SKH_INLINE uint64_t skh_xxh64_state_finish(const sketch_xxh64_state_t *state) {
         skh_xxh64_fold_tail(hash, state->waiting, skh_xxh64_state_waiting_count(state)));
 }
 
-/* The hash of one key of a column. Long keys are inlined too, and the tail has a loop, whose
- * branches processors predict better: columns of mixed lengths are 10 % faster. */
+/* The hash after a tail of fewer than 32 bytes. The only branch is on the length, which a
+ * compiler knows within each arm. */
+SKH_INLINE uint64_t skh_xxh64_fold_by_length(uint64_t hash, const unsigned char *tail,
+                                             uint64_t tail_length) {
+    switch (tail_length) {
+    case 0: return hash;
+    case 1: return skh_xxh64_fold_below_16(hash, tail, 1);
+    case 2: return skh_xxh64_fold_below_16(hash, tail, 2);
+    case 3: return skh_xxh64_fold_below_16(hash, tail, 3);
+    case 4: return skh_xxh64_fold_below_16(hash, tail, 4);
+    case 5: return skh_xxh64_fold_below_16(hash, tail, 5);
+    case 6: return skh_xxh64_fold_below_16(hash, tail, 6);
+    case 7: return skh_xxh64_fold_below_16(hash, tail, 7);
+    case 8: return skh_xxh64_fold_below_16(hash, tail, 8);
+    case 9: return skh_xxh64_fold_below_16(hash, tail, 9);
+    case 10: return skh_xxh64_fold_below_16(hash, tail, 10);
+    case 11: return skh_xxh64_fold_below_16(hash, tail, 11);
+    case 12: return skh_xxh64_fold_below_16(hash, tail, 12);
+    case 13: return skh_xxh64_fold_below_16(hash, tail, 13);
+    case 14: return skh_xxh64_fold_below_16(hash, tail, 14);
+    case 15: return skh_xxh64_fold_below_16(hash, tail, 15);
+    case 16: return skh_xxh64_fold_from_16(hash, tail, 16);
+    case 17: return skh_xxh64_fold_from_16(hash, tail, 17);
+    case 18: return skh_xxh64_fold_from_16(hash, tail, 18);
+    case 19: return skh_xxh64_fold_from_16(hash, tail, 19);
+    case 20: return skh_xxh64_fold_from_16(hash, tail, 20);
+    case 21: return skh_xxh64_fold_from_16(hash, tail, 21);
+    case 22: return skh_xxh64_fold_from_16(hash, tail, 22);
+    case 23: return skh_xxh64_fold_from_16(hash, tail, 23);
+    case 24: return skh_xxh64_fold_from_16(hash, tail, 24);
+    case 25: return skh_xxh64_fold_from_16(hash, tail, 25);
+    case 26: return skh_xxh64_fold_from_16(hash, tail, 26);
+    case 27: return skh_xxh64_fold_from_16(hash, tail, 27);
+    case 28: return skh_xxh64_fold_from_16(hash, tail, 28);
+    case 29: return skh_xxh64_fold_from_16(hash, tail, 29);
+    case 30: return skh_xxh64_fold_from_16(hash, tail, 30);
+    }
+    return skh_xxh64_fold_from_16(hash, tail, 31);
+}
+
+/* The hash of one key of a column. A processor cannot foresee branches on lengths that do not
+ * repeat, so a short key takes one of them, and not several. */
 SKH_INLINE uint64_t skh_xxh64_hash_one_of_many(const unsigned char *bytes, uint64_t bytes_length,
                                                uint64_t seed) {
-    if (bytes_length < 32) {
-        const uint64_t hash = seed + SKH_PRIME5 + bytes_length;
-        return skh_xxh64_avalanche(skh_xxh64_fold_tail(hash, bytes, bytes_length));
+    if (bytes_length >= 32) return skh_xxh64_hash(bytes, bytes_length, seed);
+    const uint64_t hash = seed + SKH_PRIME5 + bytes_length;
+    return skh_xxh64_avalanche(skh_xxh64_fold_by_length(hash, bytes, bytes_length));
+}
+
+/* The 64-bit hash of each key of a run under a seed: of key `start`, and of as many keys as
+ * `out` has places. The caller must have checked the offsets, as `skh_check_offsets32` does. */
+static SKH_NOINLINE void skh_xxh64_hash_run32(const unsigned char *bytes, const uint32_t *offsets,
+                                              uint64_t start, uint64_t seed, uint64_t *out,
+                                              uint64_t out_count) {
+    for (uint64_t i = 0; i < out_count; i++) {
+        const uint64_t first = skh_get32(offsets + start + i);
+        skh_set64(out + i,
+                  skh_xxh64_hash_one_of_many(
+                      bytes + first, (uint64_t)skh_get32(offsets + start + i + 1) - first, seed));
     }
-    const uint64_t hash = skh_xxh64_merge_stripes(bytes, bytes_length / 32, seed) + bytes_length;
-    return skh_xxh64_avalanche(
-        skh_xxh64_fold_tail(hash, bytes + bytes_length / 32 * 32, bytes_length % 32));
 }
 
 /* The 64-bit hash of each key of a column under a seed, each at its place of `out`.
@@ -746,12 +795,20 @@ SKH_INLINE struct skh_result skh_xxh64_hash_each32(const unsigned char *bytes,
     const struct skh_result result =
         skh_check_offsets32(bytes_length, offsets, offsets_count, out_count);
     if (SKH_UNLIKELY(result.is_error)) return skh_error(result.value);
-    for (uint64_t i = 0; i < out_count; i++) {
-        const uint64_t first = skh_get32(offsets + i);
-        skh_set64(out + i, skh_xxh64_hash_one_of_many(
-                               bytes + first, (uint64_t)skh_get32(offsets + i + 1) - first, seed));
-    }
+    skh_xxh64_hash_run32(bytes, offsets, 0, seed, out, out_count);
     return skh_ok(0);
+}
+
+/* The 64-bit hash of each key of a run under a seed: of key `start`, and of as many keys as
+ * `out` has places. The caller must have checked the offsets, as `skh_check_offsets64` does. */
+static SKH_NOINLINE void skh_xxh64_hash_run64(const unsigned char *bytes, const uint64_t *offsets,
+                                              uint64_t start, uint64_t seed, uint64_t *out,
+                                              uint64_t out_count) {
+    for (uint64_t i = 0; i < out_count; i++) {
+        const uint64_t first = skh_get64(offsets + start + i);
+        skh_set64(out + i, skh_xxh64_hash_one_of_many(
+                               bytes + first, skh_get64(offsets + start + i + 1) - first, seed));
+    }
 }
 
 /* The 64-bit hash of each key of a column under a seed, each at its place of `out`.
@@ -768,11 +825,7 @@ SKH_INLINE struct skh_result skh_xxh64_hash_each64(const unsigned char *bytes,
     const struct skh_result result =
         skh_check_offsets64(bytes_length, offsets, offsets_count, out_count);
     if (SKH_UNLIKELY(result.is_error)) return skh_error(result.value);
-    for (uint64_t i = 0; i < out_count; i++) {
-        const uint64_t first = skh_get64(offsets + i);
-        skh_set64(out + i, skh_xxh64_hash_one_of_many(bytes + first,
-                                                      skh_get64(offsets + i + 1) - first, seed));
-    }
+    skh_xxh64_hash_run64(bytes, offsets, 0, seed, out, out_count);
     return skh_ok(0);
 }
 
@@ -786,35 +839,6 @@ SKH_INLINE struct skh_result skh_xxh64_hash_each_u64(const uint64_t *input, uint
         skh_set64(out + i, skh_xxh64_hash_u64(skh_get64(input + i), seed));
     }
     return skh_ok(0);
-}
-
-/* The 64-bit hash of each key of a run under a seed: of key `start`, and of as many keys as
- * `out` has places. The caller must have checked the offsets, as `skh_check_offsets32` does. */
-static SKH_NOINLINE void skh_xxh64_hash_run32(const unsigned char *bytes, const uint32_t *offsets,
-                                              uint64_t start, uint64_t seed, uint64_t *out,
-                                              uint64_t out_count) {
-    /* By `skh_xxh64_hash_one_of_many` keys of 8 to 24 bytes would take 1.07 to 1.1 times as
- * long. */
-    for (uint64_t i = 0; i < out_count; i++) {
-        const uint64_t first = skh_get32(offsets + start + i);
-        skh_set64(out + i,
-                  skh_xxh64_hash(bytes + first,
-                                 (uint64_t)skh_get32(offsets + start + i + 1) - first, seed));
-    }
-}
-
-/* The 64-bit hash of each key of a run under a seed: of key `start`, and of as many keys as
- * `out` has places. The caller must have checked the offsets, as `skh_check_offsets64` does. */
-static SKH_NOINLINE void skh_xxh64_hash_run64(const unsigned char *bytes, const uint64_t *offsets,
-                                              uint64_t start, uint64_t seed, uint64_t *out,
-                                              uint64_t out_count) {
-    /* By `skh_xxh64_hash_one_of_many` keys of 8 to 24 bytes would take 1.07 to 1.1 times as
- * long. */
-    for (uint64_t i = 0; i < out_count; i++) {
-        const uint64_t first = skh_get64(offsets + start + i);
-        skh_set64(out + i,
-                  skh_xxh64_hash(bytes + first, skh_get64(offsets + start + i + 1) - first, seed));
-    }
 }
 
 /* The 64-bit hash of the four little-endian bytes of `input`, under a seed. */

@@ -202,6 +202,16 @@ case("swap_of_pairs", TWO, 64, body(
 case("switch", TWO, 64, body(
     [{"Switch": [L[1], [[0], [1, 127], [2 ** 31, 2 ** 63]], True]}, *put(0, "Opd", number(5)), *put(0, "Opd", L[2]),
      *put(0, "Opd", L[1]), *op(0, "Xor", L[1], L[2])]), lambda a, b: {0: 5, 1: b, 127: b, 2 ** 31: a, 2 ** 63: a}.get(a, a ^ b))
+case("cases", TWO, 64, body(
+    [{"Switch": [L[1], [[0], [1], [127], [255]], True]}, *put(0, "Opd", number(5)), *put(0, "Opd", L[2]),
+     *seq(op(3, LT, L[2], number(99)), when(L[3], put(0, "Opd", number(6)), put(0, "Opd", number(7)))),
+     *put(0, "Opd", number(8)), *op(0, "Xor", L[1], L[2])]),
+     lambda a, b: {0: 5, 1: b, 127: 6 if b < 99 else 7, 255: 8}.get(a, a ^ b), ["Bool"])
+few, arms = (0, 1, 3, 127, 255), [token for n in range(5) for token in seq(
+    op(3, LT, L[2], number(99)), when(L[3], exit_of(0), seq(put(0, "Opd", number(n)), RETURN)))]
+case("cases_that_leave_a_loop", TWO, 64, body(
+    LOOP + [{"Switch": [L[1], [[n] for n in few], True]}, *arms, *seq(op(0, "Xor", L[1], L[2]), RETURN)],
+    op(0, "WrapAdd", L[2], number(9))), lambda a, b: a ^ b if a not in few else b + 9 if b < 99 else few.index(a), ["Bool"])
 case("by_and", TWO, 1, body(
     put(0, "Opd", "False"), op(3, LT, L[1], number(255)),
     BLOCK + seq(when(L[3], seq(), exit_of(0)), op(4, LT, L[2], number(2 ** 31)), put(0, "Opd", L[4]))),

@@ -14,14 +14,14 @@ from mir import BOOL as FLAG
 from mir import BYTE, WORD, Crates, Given, Type, Unknown
 from source import Sources
 from statement import (Comment, Declare, Do, Give, Node, When, While, all_nodes, expressions_of, inline_once, lists_of,
-                       must_be_declared, reads_of, tidy, without_unread)
+                       must_be_declared, reads_of, tidy, with_switches, without_unread)
 from values import Parts
 from write import Writer, comment
 
 CRATES = ("sketch_base", "sketch_hash", "datasketches", "sketch_bloom", "sketch_c")
 # What is evaluated where it is called, since in C it is one operator or call.
 WRITTEN_OUT = re.compile(r"^core::|::fn::|\+Fn|^sketch_hash::hash::(words::(read_|rotate|split_pieces)|copy::copy_array|value::"
-                         r"|columns::U\d+Offset|murmurhash::block_word)|^sketch_bloom::folds::word$")
+                         r"|columns::U\d+Offset|murmurhash::block_word|xxhash::tail::fold_exactly)|^sketch_bloom::folds::word$")
 STORAGE = {"always": "SKH_INLINE", "never": "static SKH_NOINLINE", "": "static"}
 HEADER_TYPES = {own.text: own for own in (INT, SIZE, VOID, NUMBERS[16], NUMBERS[32], NUMBERS[64])}
 DECLARATION = re.compile(r"/\*\*((?:(?!\*/).)*)\*/\nSKETCH_HASH_API ([^;(]+?) ?\b(sketch_\w+)\(([^;]*)\);", re.S)
@@ -164,7 +164,7 @@ class Library:
     def finish(self, printed: Printed, body: Body, values: list[list[Expression]]) -> Printed:
         self.by_name[printed.name] = printed
         code = body.evaluate([Parts(tuple(own)) if len(own) > 1 else own[0] for own in values], printed.parameters)
-        printed.body = tidy(inline_once(without_unread(code)))
+        printed.body = with_switches(tidy(inline_once(without_unread(code))))
         must_be_declared(printed.body, [*printed.parameters, *self.arrays.values()])
         reads = reads_of(printed.body)
         printed.is_used = [own in reads or bool(printed.head) for own in printed.parameters]

@@ -3,6 +3,7 @@ from __future__ import annotations
 
 from collections import Counter
 from dataclasses import dataclass
+from itertools import groupby
 from typing import Callable, Iterable, Iterator
 
 from expression import CHANGES, Expression, Variable, negate, value_of, variable
@@ -44,6 +45,14 @@ class When(Node):
 
 
 @dataclass(eq=False)
+class Switch(Node):
+    """Cases that each leave the function. What is done for any other number follows it."""
+
+    of: Expression
+    cases: list[tuple[Expression, list[Node]]]
+
+
+@dataclass(eq=False)
 class While(Node):
     """`counter` is what a `for` declares, and counts up at the end of each turn."""
 
@@ -70,6 +79,8 @@ class Comment(Node):
 
 
 def lists_of(node: Node) -> list[list[Node]]:
+    if isinstance(node, Switch):
+        return [nodes for _, nodes in node.cases]
     return [node.yes, node.no] if isinstance(node, When) else [node.body] if isinstance(node, While) else []
 
 
@@ -98,6 +109,8 @@ def change(node: Node, new: Callable[[Expression], Expression]) -> None:
         node.call = new(node.call)
     elif isinstance(node, (When, While)) and node.condition is not None:
         node.condition = new(node.condition)
+    elif isinstance(node, Switch):
+        node.of = new(node.of)
 
 
 def expressions_of(node: Node) -> list[Expression]:
@@ -208,6 +221,28 @@ def tidy(nodes: list[Node], is_last: bool = True) -> list[Node]:
     if is_last and out and isinstance(out[-1], Give) and out[-1].value is None:
         out.pop()
     return out
+
+
+def with_switches(nodes: list[Node]) -> list[Node]:
+    """More than three conditions in a row that compare one value with numbers, and leave, become cases."""
+    out: list[Node] = []
+    for node in nodes:
+        for each in lists_of(node):
+            each[:] = with_switches(each)
+    for value, group in groupby(nodes, compared):
+        own = list(group)
+        is_long = value is not None and len(own) > 3
+        out += [Switch(value, [(node.condition.args[1], node.yes) for node in own])] if is_long else own
+    return out
+
+
+def compared(node: Node) -> Expression | None:
+    """The value of which a condition asks whether it is one number, and then leaves the function."""
+    if isinstance(node, When) and not node.no and node.condition.word == "==" and isinstance(node.yes[-1], Give):
+        value, number = node.condition.args
+        if value_of(number) is not None and not any(isinstance(each, Break) for each in all_nodes(node.yes)):
+            return value
+    return None
 
 
 def gives(nodes: list[Node]) -> list[Expression | None]:

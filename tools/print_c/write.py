@@ -11,7 +11,7 @@ from typing import Iterator
 from expression import BOOL, INT, SIZE, CType, Expression, Pointer, convert, divide, number, value_of
 from forms import STATUSES
 from mir import Unknown
-from statement import Break, Comment, Declare, Do, Give, Node, Set, When, While
+from statement import Break, Comment, Declare, Do, Give, Node, Set, Switch, When, While
 
 WIDTH = 100
 ROWS = ("", "||", "&&", "|", "^", "&", "== !=", "< <= > >=", "<< >>", "+ -", "* / %")
@@ -192,6 +192,12 @@ class Writer:
             if node.no:
                 yield "} else {"
                 yield from self.lines(node.no, result, depth + 1)
+            yield "}"
+        elif isinstance(node, Switch):
+            yield f"switch ({self.text(node.of)}) {{"
+            for value, body in node.cases:
+                yield f"case {self.text(value)}:"
+                yield from self.lines(body, result, depth + 1)
             yield "}"
         elif isinstance(node, While):
             if node.counter:

@@ -9,7 +9,7 @@ use mir.Syntax.{wrap_mul, wrap_add, shl, shr, unsigned}
 use mir.Syntax as syntax
 use Rattle.std.specs.List.{fold}
 use Rattle.std.specs.Simd.Lanes.{zip2}
-use Rattle.std.proofs.lemmas.List.{take_more, nil_from_length, map-id, take_rest}
+use Rattle.std.proofs.lemmas.List.{take_more, nil_from_length, map-id, take_rest, take_all}
 use Rattle.std.proofs.lemmas.List.Sums.{fold-append}
 use Rattle.sketch_hash.specs.Xxh64.{Lanes, round, prime1, prime2, stripe_step, seeded_step, each_lane, prime5, lanes_start, lanes, merge, steps_of, steps, tail_step, eight_step, four_step, byte_step, avalanche, finalize, xxh64, xxh64_start, xxh64_after, xxh64_answer, Xxh64Stands, lanes_of, stripe_words}
 use Rattle.std.proofs.Math.Nat.{mod-eq_of_lt}
@@ -184,6 +184,8 @@ no_steps hash tail none = rw (nil_from_length tail none) refl
 pub ruleset for_fold_from_16 = (fold_pair, no_steps)
 
 pub ruleset for_fold_below_16 = (fold_eight, no_steps)
+
+pub ruleset for_fold_exactly = (take_all)
 
 pub ruleset for_fold_words = (fold_eight, take_rest)
 

@@ -16,7 +16,7 @@ mod tail;
 use self::lanes::{ScalarLanes, consume, fold_run, fold_stripes, merge, vector_round};
 pub use self::state::XxHash64State;
 use self::steps::{PRIME5, avalanche, eight_step, four_step};
-use self::tail::{fold_below_16, fold_from_16, fold_tail};
+use self::tail::{fold_below_16, fold_by_length, fold_from_16, fold_tail};
 use super::copy::copy_small;
 use super::hasher::Hasher;
 use super::words::split_pieces;
@@ -173,10 +173,10 @@ impl XxHash64 {
         self.lanes = lanes.into_vector();
     }
 
-    // Completes the partial stripe, and goes on after it. A separate call costs short writes
-    // nothing, and converts the lanes to four words once. The count is set first, so that no
-    // register has to hold it during the rounds: set after them, writes of 13 to 31 bytes take 1.05
-    // to 1.1 times as long.
+    // Completes the partial stripe, and goes on after it. It is a call of its own, so that shorter
+    // writes save fewer registers. It converts the lanes to four words once. The count is set first,
+    // so that no register has to hold it during the rounds: set after them, writes of 13 to 31 bytes
+    // take 1.05 to 1.1 times as long.
     #[inline(never)]
     fn write_across(&mut self, bytes: &[u8])
         requires short { length self.old.waiting < 32 }
@@ -253,20 +253,18 @@ impl Hasher for XxHash64 {
     ghost empty_write = { xxh64_after-empty };
 }
 
-/// The hash of one key of a column. Long keys are inlined too, and the tail has a loop, whose
-/// branches processors predict better: columns of mixed lengths are 10 % faster.
+/// The hash of one key of a column. A processor cannot foresee branches on lengths that do not
+/// repeat, so a short key takes one of them, and not several.
 #[inline(always)]
-#[tactic(auto, using(crate::proofs::Xxh64Answers::of_short, crate::proofs::Xxh64Answers::of_long))]
+#[tactic(auto, using(crate::proofs::Xxh64Answers::of_short))]
 pub(super) fn hash_one_of_many(bytes: &[u8], seed: u64) -> u64
     ensures { result ≡ xxh64 seed bytes.now }
 {
-    if bytes.len() < STRIPE {
-        let hash = seed.wrapping_add(PRIME5).wrapping_add(bytes.len() as u64);
-        return avalanche(fold_tail(hash, bytes));
+    if bytes.len() >= STRIPE {
+        return XxHash64::hash(bytes, seed);
     }
-    let (stripes, last) = split_pieces::<STRIPE>(bytes);
-    let hash = merge_stripes(stripes, seed).wrapping_add(bytes.len() as u64);
-    avalanche(fold_tail(hash, last))
+    let hash = seed.wrapping_add(PRIME5).wrapping_add(bytes.len() as u64);
+    avalanche(fold_by_length(hash, bytes))
 }
 
 // The hash of 32 to 63 bytes. In a separate call a compiler knows that there is one stripe and
