@@ -34,12 +34,14 @@ RefusesFields seed fields error =
     × Refuses InvalidData (invalid_family_text 7 fields.2 (codes "HLL")) error)
     ⊎ ((fields.0 ≡ 1) × (fields.1 ≡ 3) × (fields.2 ≡ 7) × (seed_hash seed ≡ 0)
     × Refuses InvalidArgument (zero_seed_hash_text seed) error)
-    ⊎ ((fields.0 ≡ 1) × (fields.1 ≡ 3) × (fields.2 ≡ 7) × (seed_hash seed ≢ 0) × (fields.3 ≢ seed_hash seed)
-    × Refuses InvalidData (incompatible_seed_hash_text (codes "hll") (seed_hash seed) fields.3) error)
+    ⊎ ((fields.0 ≡ 1) × (fields.1 ≡ 3) × (fields.2 ≡ 7) × (seed_hash seed ≢ 0)
+    × (fields.3 ≢ seed_hash seed) × Refuses InvalidData
+    (incompatible_seed_hash_text (codes "hll") (seed_hash seed) fields.3) error)
 
 -- the fields of a preamble
 abbrev pub fields_of : List ℕ → ℕ × ℕ × ℕ × ℕ
-fields_of bytes = (number_at 0 1 bytes, number_at 1 1 bytes, number_at 2 1 bytes, number_at 3 2 bytes)
+fields_of bytes =
+    (number_at 0 1 bytes, number_at 1 1 bytes, number_at 2 1 bytes, number_at 3 2 bytes)
 
 -- the errors for bytes that do not begin with the preamble of a seed
 abbrev pub RefusesPreamble : ℕ → List ℕ → ErrorValue → Type 0

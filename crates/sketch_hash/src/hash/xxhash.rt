@@ -174,9 +174,9 @@ impl XxHash64 {
     }
 
     // Completes the partial stripe, and goes on after it. It is a call of its own, so that shorter
-    // writes save fewer registers. It converts the lanes to four words once. The count is set first,
-    // so that no register has to hold it during the rounds: set after them, writes of 13 to 31 bytes
-    // take 1.05 to 1.1 times as long.
+    // writes save fewer registers. It converts the lanes to four words once. The count is set
+    // first, so that no register has to hold it during the rounds: set after them, writes of 13 to
+    // 31 bytes take 1.05 to 1.1 times as long.
     #[inline(never)]
     fn write_across(&mut self, bytes: &[u8])
         requires short { length self.old.waiting < 32 }
