@@ -57,14 +57,11 @@ def test_threads_may_share_an_object(kind):
     assert hasher.digest() == kind((piece + piece[:256]) * 160).digest()
 
 
-def add_each(bloom, data):
-    bloom.add_each((data, array.array("Q", [0, len(data)])))
-
-
 @pytest.mark.parametrize("make, append, ask", [
     (xxh64, xxh64.update, xxh64.digest),
     (murmur3_x64_128, murmur3_x64_128.update, murmur3_x64_128.digest),
-    (lambda: BloomFilter(1024), add_each, BloomFilter.to_bytes),
+    (lambda: BloomFilter(1024), lambda bloom, data: bloom.add_each((data, array.array("Q", [0, len(data)]))),
+     BloomFilter.to_bytes),
 ], ids=["xxh64", "murmur3_x64_128", "BloomFilter"])
 def test_a_signal_handler_may_call_the_object(make, append, ask):
     """It runs after the call of C, while the object's lock is held."""
