@@ -1,5 +1,6 @@
 """What several files of tests use: the calls on hashes, copies, threads, the rate of a filter, and columns of pyarrow."""
 import array
+import concurrent.futures
 import copy
 import decimal
 import fractions
@@ -25,13 +26,10 @@ ZEROS = mmap.mmap(-1, 1 << 31, flags=mmap.MAP_PRIVATE | mmap.MAP_ANONYMOUS | MAP
 
 
 def in_threads(work):
-    """Runs work(0) to work(3) at the same time."""
+    """Runs work(0) to work(3) at the same time. Raises what one of them raises."""
     start = threading.Barrier(4)
-    workers = [threading.Thread(target=lambda n=n: (start.wait(), work(n))) for n in range(4)]
-    for worker in workers:
-        worker.start()
-    for worker in workers:
-        worker.join()
+    with concurrent.futures.ThreadPoolExecutor(4) as pool:
+        list(pool.map(lambda n: (start.wait(), work(n)), range(4)))
 
 
 def waits(long_call, call):
