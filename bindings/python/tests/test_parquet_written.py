@@ -167,14 +167,9 @@ def test_a_filter_is_no_larger_than_it_may_be(copy, tmp_path, monkeypatch):
         parquet.add_filters(copy, tmp_path / "c", ["plain"], max_bytes=31)
 
 
-def test_a_column_whose_row_groups_are_alike_is_named(copy, monkeypatch):
-    monkeypatch.setattr(writer, "stored_values", lambda *_: ((i, [column(["x", "y"][:3 - i])]) for i in range(3)))
-    with pytest.warns(UserWarning, match="^the filters of plain help little: all row groups have the same values$"):
-        parquet.add_filters(copy, copy, ["plain"])
-
-
 @pytest.mark.parametrize("names, change, text", [
-    (["plain"], lambda fields: fields.update({8: (TType.STRUCT, {})}), "the footer must not be signed: each change"),
+    (["plain"], lambda fields: fields.update({8: (TType.STRUCT, {1: (TType.STRUCT, {})})}),
+     "the footer must not be signed: each change"),
     (["plain"], lambda fields: chunk_of(fields, 1, 5).pop(3), "the column plain must not be encrypted"),
     (["plain"], lambda fields: set_path(fields, 1, 5), "the column plain must be in this file alone, not in those"),
     (["bool"], None, "must not be BOOLEAN"), (["half"], None, "must not be FLOAT16: DuckDB"),
@@ -259,28 +254,21 @@ def test_a_target_that_changes_meanwhile_is_not_overwritten(old, copy, tmp_path,
     assert target.read_bytes() == b"other data" and set(os.listdir(tmp_path)) == {"a.parquet", "b.parquet"}
 
 
-def test_of_two_runs_on_one_file_the_second_fails(copy, monkeypatch):
+@pytest.mark.parametrize("flock, second, first, names", [
+    (fcntl.flock, "the file is locked by another program, or another run is replacing it", "None", {"plain"}),
+    (lambda *_: os.stat("/none"), "None", "the file must not change while it is read", {"b"}),
+], ids=["the second", "the first without locks"])
+def test_of_two_runs_on_one_file_one_fails(flock, second, first, names, copy, monkeypatch):
     def second_run():
         monkeypatch.setattr(writer, "stored_values", texts)
-        with pytest.raises(ValueError, match="^the file is locked by another program, or another run is replacing it$"):
-            parquet.add_filters(copy, copy, ["b"])
+        errors.append(str(error_of(parquet.add_filters, copy, copy, ["b"])))
 
+    errors = []
     meanwhile(monkeypatch, second_run)
-    parquet.add_filters(copy, copy, ["plain"])
-    parquet.add_filters(copy, copy, ["b"])
-    assert {name for _, name in parquet.filters(copy)} == {"plain", "b"}
-
-
-def test_of_two_runs_on_one_file_the_first_fails_if_there_are_no_locks(copy, monkeypatch):
-    def second_run():
-        monkeypatch.setattr(writer, "stored_values", texts)
-        parquet.add_filters(copy, copy, ["b"])
-
-    meanwhile(monkeypatch, second_run)
-    monkeypatch.setattr("fcntl.flock", lambda *_: os.stat("/none"))
-    with pytest.raises(ValueError, match="must not change"):
-        parquet.add_filters(copy, copy, ["plain"])
-    assert {name for _, name in parquet.filters(copy)} == {"b"}
+    monkeypatch.setattr("fcntl.flock", flock)
+    errors.append(str(error_of(parquet.add_filters, copy, copy, ["plain"])))
+    assert errors == [second, first] and {name for _, name in parquet.filters(copy)} == names
+    parquet.add_filters(copy, copy, ["b"], replace=True)
 
 
 def test_what_others_put_in_place_of_the_new_file_is_not_touched(copy, tmp_path, monkeypatch):
@@ -388,17 +376,18 @@ def test_a_file_keeps_its_owner_mode_and_attributes(copy, tmp_path):
     assert {name: os.getxattr(copy, name) for name in os.listxattr(copy)} == attributes and after.st_ino != before.st_ino
 
 
-def test_what_a_user_may_not_keep_is_noted(copy, monkeypatch):
-    monkeypatch.setattr(os, "fchown", fails)
-    with pytest.warns(UserWarning, match="^the new file lacks what this user may not set: owner, group$"):
+@pytest.mark.parametrize("prepare, text", [
+    (lambda copy, patch: patch(os, "fchown", fails), "the new file lacks what this user may not set: owner, group"),
+    (lambda copy, patch: copy.with_name(".a.parquet.crc").write_bytes(b"crc"),
+     "Hadoop's checksum .a.parquet.crc is that of the old file: delete it"),
+    (lambda copy, patch: patch(writer, "stored_values", lambda *_: ((i, [column(["x", "y"][:3 - i])]) for i in range(3))),
+     "the filters of plain help little: all row groups have the same values"),
+], ids=["owner", "checksum of Hadoop", "row groups that are alike"])
+def test_what_is_lost_or_helps_little_is_noted(prepare, text, copy, monkeypatch):
+    prepare(copy, monkeypatch.setattr)
+    with pytest.warns(UserWarning, match=f"^{text}$"):
         parquet.add_filters(copy, copy, ["plain"])
     assert len(parquet.filters(copy)) == 3
-
-
-def test_a_checksum_of_hadoop_that_is_wrong_from_then_on_is_noted(copy, tmp_path):
-    (tmp_path / ".a.parquet.crc").write_bytes(b"crc")
-    with pytest.warns(UserWarning, match="^Hadoop's checksum .a.parquet.crc is that of the old file: delete it$"):
-        parquet.add_filters(copy, copy, ["plain"])
 
 
 def test_what_killed_runs_left_is_removed_by_the_next(copy, tmp_path):
