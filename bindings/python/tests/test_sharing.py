@@ -4,7 +4,7 @@ import fractions
 import signal
 
 import pytest
-from helpers import KINDS, ONE_CALL, WAYS, assert_releases_the_gil, in_threads
+from helpers import KINDS, ON_COLUMNS, ONE_CALL, WAYS, assert_releases_the_gil, in_threads
 from sketch_hash import BloomFilter, murmur3_x64_128, murmur3_x64_128_each, xxh64, xxh64_each
 
 numpy = pytest.importorskip("numpy")
@@ -96,10 +96,7 @@ def test_calls_of_64_kib_release_the_gil(call, length, ticks):
     assert_releases_the_gil(call, bytes(length), ticks)
 
 
-BLOOM = BloomFilter(32)
-
-
-@pytest.mark.parametrize("call", [xxh64_each, murmur3_x64_128_each, BLOOM.add_each, BLOOM.contains_each])
+@pytest.mark.parametrize("call", ON_COLUMNS)
 def test_columns_of_64_kib_release_the_gil(call, ticks):
     assert_releases_the_gil(call, (bytes(1 << 24), array.array("I", range(100_000))), ticks)
     assert_releases_the_gil(call, (b"", array.array("Q", bytes(1 << 20))), ticks)
