@@ -10,9 +10,9 @@
 static const uint32_t salt[8] = {0x47b6137b, 0x44974d91, 0x8824ad5b, 0xa2b7289d,
                                  0x705495c7, 0x2df1424b, 0x9efc4947, 0x5c6bfb31};
 
-/* the filters' length, the keys in them, the first key of the next call */
-static size_t bytes, keys, at;
-static unsigned char *ours, *theirs, *data;
+/* the filters' length, the keys in them, the first key of the next call, a wrong offset */
+static size_t bytes, keys, at, wrong;
+static unsigned char *ours, *theirs, *data, answers[KEYS];
 static uint64_t *given, *offsets;
 static struct bloom libbloom;
 
@@ -45,63 +45,59 @@ __attribute__((noinline, target("avx2"))) static int avx2_contains(uint64_t hash
     return _mm256_testc_si256(_mm256_loadu_si256(block), avx2_mask(hash));
 }
 
-__attribute__((noipa)) static void avx2_insert_key(const void *key, size_t length) {
-    avx2_insert(XXH64(key, length, 0));
-}
-
-__attribute__((noipa)) static int avx2_contains_key(const void *key, size_t length) {
-    return avx2_contains(XXH64(key, length, 0));
-}
-
-__attribute__((noipa)) static void plain_insert_key(const void *key, size_t length) {
-    plain_insert(XXH64(key, length, 0));
-}
-
-__attribute__((noipa)) static int plain_contains_key(const void *key, size_t length) {
-    return plain_contains(XXH64(key, length, 0));
-}
+/* The calls of a peer for a key, which it hashes. */
+#define KEY_CALLS(PEER)                                                                            \
+    __attribute__((noipa)) static void PEER##_insert_key(const void *key, size_t length) {         \
+        PEER##_insert(XXH64(key, length, 0));                                                      \
+    }                                                                                              \
+    __attribute__((noipa)) static int PEER##_contains_key(const void *key, size_t length) {        \
+        return PEER##_contains(XXH64(key, length, 0));                                             \
+    }
+KEY_CALLS(plain)
+KEY_CALLS(avx2)
 
 /* The bytes of a key, and how many there are. */
 #define KEY(i) data + offsets[i], (int)(offsets[(i) + 1] - offsets[i])
 
 /* A function for `compare`: the calls for KEYS keys of the inserted ones (`length` 0) or the others. */
-#define CALLS(NAME, CALL)                                                                          \
+#define WORK(NAME, CALLS)                                                                          \
     static uint64_t NAME(size_t total, size_t length) {                                            \
         uint64_t found = 0;                                                                        \
         const size_t first = (at += total) % (keys - KEYS) + length * keys;                        \
-        for (size_t i = first; i < first + KEYS; i++) found += CALL;                               \
+        CALLS;                                                                                     \
         return found * (length == 0);                                                              \
     }
-CALLS(insert_hash, sketch_bloom_insert_hash(ours, bytes, given[i]) + 1)
-CALLS(c_insert_hash, (plain_insert(given[i]), 1))
-CALLS(contains_hash, sketch_bloom_contains_hash(ours, bytes, given[i]))
-CALLS(c_contains_hash, plain_contains(given[i]))
-CALLS(insert_key, sketch_bloom_insert(ours, bytes, KEY(i)) + 1)
-CALLS(c_insert_key, (plain_insert_key(KEY(i)), 1))
-CALLS(v_insert_hash, (avx2_insert(given[i]), 1))
-CALLS(v_contains_hash, avx2_contains(given[i]))
-CALLS(v_insert_key, (avx2_insert_key(KEY(i)), 1))
-CALLS(v_contains_key, avx2_contains_key(KEY(i)))
-CALLS(libbloom_insert, (bloom_add(&libbloom, KEY(i)), 1))
-CALLS(contains_key, sketch_bloom_contains(ours, bytes, KEY(i)))
-CALLS(c_contains_key, plain_contains_key(KEY(i)))
-CALLS(libbloom_contains, (bloom_check(&libbloom, KEY(i)) != 0))
+/* Two of them: to insert, and to look up. */
+#define WORKS(NAME, INSERT, CONTAINS)                                                              \
+    WORK(insert_##NAME, INSERT)                                                                    \
+    WORK(contains_##NAME, CONTAINS)                                                                \
+    static work *const NAME[] = {insert_##NAME, contains_##NAME};
+/* Calls for a key, of which that to insert returns 0. */
+#define EACH(CALL)                                                                                 \
+    for (size_t i = first; i < first + KEYS; i++) found += CALL
+#define PAIR(NAME, INSERT, CONTAINS) WORKS(NAME, EACH((INSERT) + 1), EACH(CONTAINS))
+PAIR(our_hash, sketch_bloom_insert_hash(ours, bytes, given[i]),
+     sketch_bloom_contains_hash(ours, bytes, given[i]))
+PAIR(plain_hash, (plain_insert(given[i]), 0), plain_contains(given[i]))
+PAIR(avx2_hash, (avx2_insert(given[i]), 0), avx2_contains(given[i]))
+PAIR(our_key, sketch_bloom_insert(ours, bytes, KEY(i)), sketch_bloom_contains(ours, bytes, KEY(i)))
+PAIR(plain_key, (plain_insert_key(KEY(i)), 0), plain_contains_key(KEY(i)))
+PAIR(avx2_key, (avx2_insert_key(KEY(i)), 0), avx2_contains_key(KEY(i)))
+PAIR(libbloom_key, (bloom_add(&libbloom, KEY(i)), 0), (bloom_check(&libbloom, KEY(i)) != 0))
+/* A column in place of them. */
+#define COLUMN ours, bytes, data, offsets[first + KEYS], offsets + first, KEYS + 1
+WORKS(our_column, found = sketch_bloom_insert_each64(COLUMN, &wrong) + KEYS,
+      sketch_bloom_contains_each64(COLUMN, answers, KEYS, &wrong);
+      EACH(answers[i - first]))
 
-static uint64_t insert_column(size_t total, size_t length) {
-    size_t wrong, first = (at += total) % (keys - KEYS) + length * keys;
-    sketch_bloom_insert_each64(ours, bytes, data, offsets[first + KEYS], offsets + first, KEYS + 1,
-                               &wrong);
-    return length == 0 ? KEYS : 0;
-}
-
-static uint64_t contains_column(size_t total, size_t length) {
-    static unsigned char found[KEYS];
-    size_t wrong, first = (at += total) % (keys - KEYS) + length * keys, sum = 0;
-    sketch_bloom_contains_each64(ours, bytes, data, offsets[first + KEYS], offsets + first,
-                                 KEYS + 1, found, KEYS, &wrong);
-    for (size_t i = 0; i < KEYS; i++) sum += found[i];
-    return length == 0 ? sum : 0;
-}
+/* The calls with a hash, with a key, and on a column or in place of that: ours, and those of the peers. */
+static work *const *const our_calls[] = {our_hash, our_key, our_column};
+static const struct {
+    const char *name;
+    work *const *calls[3];
+} peers[] = {{"plain C", {plain_hash, plain_key, plain_key}},
+             {"AVX2 in C", {avx2_hash, avx2_key, avx2_key}},
+             {"libbloom", {NULL, libbloom_key, NULL}}};
 
 /* A filter in memory that is new, since where its pages are changes what a call takes. */
 static unsigned char *renewed(unsigned char *filter) {
@@ -112,47 +108,23 @@ static unsigned char *renewed(unsigned char *filter) {
     return copy;
 }
 
-/* The calls of the library and of its peers: to insert, and to look up. */
-static const struct {
-    const char *peer;
-    work *hash[2], *key[2], *column[2];
-} sides[] = {
-    {"",
-     {insert_hash, contains_hash},
-     {insert_key, contains_key},
-     {insert_column, contains_column}},
-    {"plain C",
-     {c_insert_hash, c_contains_hash},
-     {c_insert_key, c_contains_key},
-     {c_insert_key, c_contains_key}},
-    {"AVX2 in C",
-     {v_insert_hash, v_contains_hash},
-     {v_insert_key, v_contains_key},
-     {v_insert_key, v_contains_key}},
-    {"libbloom", {NULL}, {libbloom_insert, libbloom_contains}, {NULL}},
-};
-
-static void row(const char *action, const char *what, const char *where, const char *peer,
-                work *our_call, work *their_call) {
-    char name[64];
-    if (!their_call || (!strcmp(peer, "AVX2 in C") && !__builtin_cpu_supports("avx2"))) return;
-    snprintf(name, sizeof name, "%s, %s, %s", action, what, where);
-    ours = renewed(ours), theirs = renewed(theirs);
-    compare("filter", name, peer, our_call, their_call, 104729 * KEYS, !strcmp(action, "absent"),
-            KEYS);
-}
-
-static void rows(const char *lengths, const char *where, int is_mixed) {
+static void rows(const char *where, int is_mixed) {
     static const char *const actions[] = {"insert", "found", "absent"};
+    static const char *const kinds[][3] = {{"hash given", "16 bytes", "a column"},
+                                           {NULL, "8 to 24 bytes", "a column, mixed"}};
+    char name[64];
     for (int a = 0; a < 3; a++)
-        for (size_t i = 1; i < sizeof sides / sizeof *sides; i++) {
-            const char *peer = sides[i].peer, *column = is_mixed ? "a column, mixed" : "a column";
-            if (!is_mixed)
-                row(actions[a], "hash given", where, peer, sides->hash[a > 0],
-                    sides[i].hash[a > 0]);
-            row(actions[a], lengths, where, peer, sides->key[a > 0], sides[i].key[a > 0]);
-            row(actions[a], column, where, peer, sides->column[a > 0], sides[i].column[a > 0]);
-        }
+        for (size_t i = 0; i < sizeof peers / sizeof *peers; i++)
+            for (int kind = is_mixed; kind < 3; kind++) {
+                const char *peer = peers[i].name;
+                work *const *calls = peers[i].calls[kind];
+                if (!calls || (!__builtin_cpu_supports("avx2") && !strcmp(peer, "AVX2 in C")))
+                    continue;
+                snprintf(name, sizeof name, "%s, %s, %s", actions[a], kinds[is_mixed][kind], where);
+                ours = renewed(ours), theirs = renewed(theirs);
+                compare("filter", name, peer, our_calls[kind][a > 0], calls[a > 0], 104729 * KEYS,
+                        a == 2, KEYS);
+            }
 }
 
 /* With keys of `least` to `most` bytes, of which the first eight are different. */
@@ -160,8 +132,8 @@ static void filter(const char *where, size_t length, size_t count, unsigned leas
     bytes = length, keys = count;
     ours = calloc(1, bytes), theirs = calloc(1, bytes), data = calloc(2 * keys + 1, most);
     given = malloc(2 * keys * 8), offsets = calloc(2 * keys + 1, 8);
-    if (!ours || !theirs || !data || !given || !offsets) exit(1);
-    if (bloom_init(&libbloom, (int)keys, 0.01)) exit(1);
+    if (!ours || !theirs || !data || !given || !offsets || bloom_init(&libbloom, (int)keys, 0.01))
+        exit(1);
     set_offsets(offsets, 2 * keys, least, most);
     for (size_t i = 0; i < 2 * keys; i++) {
         uint64_t words[2] = {i * 0x9e3779b97f4a7c15, i ^ i << 32};
@@ -173,7 +145,7 @@ static void filter(const char *where, size_t length, size_t count, unsigned leas
         bloom_add(&libbloom, KEY(i));
     }
     if (memcmp(ours, theirs, bytes)) exit(1);
-    rows(least == most ? "16 bytes" : "8 to 24 bytes", where, least != most);
+    rows(where, least != most);
     free(ours), free(theirs), free(data), free(given), free(offsets);
     bloom_free(&libbloom);
 }

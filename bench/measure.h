@@ -4,24 +4,12 @@
 #include <stdlib.h>
 #include <time.h>
 
-enum { ROUNDS = 101, KEYS = 4096, STREAM = 1 << 16, LARGEST = 1 << 24 };
+enum { ROUNDS = 101, KEYS = 4096 };
 
-static unsigned char input[LARGEST];
 static volatile uint64_t sink;
 
 /* Hashes `total` bytes, in keys or in writes of `length` bytes. */
 typedef uint64_t work(size_t total, size_t length);
-
-static inline void fill_input(void) {
-    for (size_t i = 0; i < sizeof input; i++) input[i] = (unsigned char)(i * 2654435761u >> 24);
-}
-
-/* As "keys of %zu byte%s" is filled for a number. The next name takes its place. */
-static inline const char *name_of(const char *format, size_t number) {
-    static char name[64];
-    snprintf(name, sizeof name, format, number, number == 1 ? "" : "s");
-    return name;
-}
 
 /* Sets the offsets of keys that have `least` to `most` bytes. The lengths do not repeat, so that no branch predictor learns
  * them: nor does it in a column of texts. */
@@ -59,9 +47,8 @@ static inline void compare(const char *table, const char *name, const char *peer
     for (int round = 0; round < ROUNDS; round++) {
         double ours_first = round % 2 ? seconds(ours, total, length, times) : 0;
         double theirs_time = seconds(theirs, total, length, times);
-        double ours_time = round % 2 ? ours_first : seconds(ours, total, length, times);
-        ratios[round] = ours_time / theirs_time;
-        times_of_ours[round] = ours_time;
+        times_of_ours[round] = round % 2 ? ours_first : seconds(ours, total, length, times);
+        ratios[round] = times_of_ours[round] / theirs_time;
     }
     qsort(ratios, ROUNDS, sizeof *ratios, by_value);
     qsort(times_of_ours, ROUNDS, sizeof *times_of_ours, by_value);

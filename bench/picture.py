@@ -26,38 +26,20 @@ text { fill: #e6edf3 } .small { fill: #9da7b3 } .page { fill: #0d1117 } .slower 
 """
 
 
-def cells():
-    """By group and peer the median for each length, as pairs, the shortest first; and the processor and the compiler."""
-    table, found = (DOCS / "speed.tsv").read_text(encoding="utf-8"), {}
-    for group, length, peer, ratio in re.findall(r"^(\w+)\tkeys of (\d+) bytes?\t([^\t]*)\t([\d.]+)", table, re.M):
-        found.setdefault((group, peer), []).append((int(length), float(ratio)))
-    processor, gcc = re.search(r"processor: (.*?)(?: @|,)", table)[1], re.search(r"compilers: gcc \(.*?\) (\d+)", table)[1]
-    return {key: sorted(pairs) for key, pairs in found.items()}, f"{processor.replace('(R)', '')}, gcc {gcc}"
-
-
-def line(kind, x1, y1, x2, y2):
-    return f'<line class="{kind}" x1="{x1:.1f}" y1="{y1:.1f}" x2="{x2:.1f}" y2="{y2:.1f}"/>'
-
-
 def text(x, y, words, kind="", anchor="start"):
     return f'<text class="{kind}" x="{x:.1f}" y="{y:.1f}" text-anchor="{anchor}">{words}</text>'
 
 
-def y_of(ratio):
-    return HEIGHT * (MOST - ratio) / (MOST - LEAST)
-
-
-def x_of(length):
-    return 8 + (WIDTH - 16) * math.log2(length) / math.log2(100)
-
-
 def plot(title, compared, pairs):
+    x_of = lambda length: 8 + (WIDTH - 16) * math.log2(length) / math.log2(100)
+    y_of = lambda ratio: HEIGHT * (MOST - ratio) / (MOST - LEAST)
     one = y_of(1)
     yield text(0, -26, title, "title") + text(0, -9, compared, "small")
     yield f'<rect class="slower" width="{WIDTH}" height="{one:.1f}"/>'
     yield f'<rect class="faster" y="{one:.1f}" width="{WIDTH}" height="{HEIGHT - one:.1f}"/>'
     for ratio in TICKS:
-        yield line("equal" if ratio == 1 else "tick", 0, y_of(ratio), WIDTH, y_of(ratio))
+        place = f'x1="0.0" y1="{y_of(ratio):.1f}" x2="{WIDTH}.0" y2="{y_of(ratio):.1f}"'
+        yield f'<line class="{"equal" if ratio == 1 else "tick"}" {place}/>'
         yield text(-5, y_of(ratio) + 4, ratio, "small", "end")
     for length in LENGTHS:
         yield text(x_of(length), HEIGHT + 15, length, "small", "middle")
@@ -70,29 +52,27 @@ def plot(title, compared, pairs):
         yield text(x, y_of(ratio) + below, f"{ratio:.2f}", "title", "middle")
 
 
-def picture(height, title, about, body):
+def head(height, title, about):
     yield f'<svg xmlns="http://www.w3.org/2000/svg" viewBox="0 0 420 {height}" width="420" height="{height}" role="img">'
     yield f"<title>{title}</title>\n<desc>{about}</desc>"
     yield f'<style>{STYLE}</style>\n<rect class="page" width="420" height="{height}" rx="8"/>'
-    yield from body
-    yield "</svg>"
 
 
 def speed():
-    found, where = cells()
-    chosen = [(title, compared, found[group, peer]) for title, compared, group, peer in PLOTS]
+    table, chosen = (DOCS / "speed.tsv").read_text(encoding="utf-8"), []
+    for title, compared, group, peer in PLOTS:
+        medians = re.findall(rf"^{group}\tkeys of (\d+) bytes?\t{peer}\t([\d.]+)", table, re.M)
+        chosen.append((title, compared, sorted((int(length), float(ratio)) for length, ratio in medians)))
     ranges = "; ".join(f"{title}, {compared}: {min(r for _, r in pairs):.2f} to {max(r for _, r in pairs):.2f}"
                        for title, compared, pairs in chosen)
-
-    def body():
-        yield text(14, 26, "Our time divided by theirs", "title")
-        yield text(14, 44, "Below 1 we are faster. By the length of a key in bytes.", "small")
-        for i, (title, compared, pairs) in enumerate(chosen):
-            yield f'<g transform="translate({40 + i % 2 * 205} {100 + i // 2 * 194})">'
-            yield "".join(plot(title, compared, pairs)) + "</g>"
-        yield text(14, 452, f"Medians of 101 rounds, {where}.", "small")
-
-    return picture(464, "Our time divided by theirs, for keys of 1 to 100 bytes", f"{ranges}.", body())
+    yield from head(464, "Our time divided by theirs, for keys of 1 to 100 bytes", f"{ranges}.")
+    yield text(14, 26, "Our time divided by theirs", "title")
+    yield text(14, 44, "Below 1 we are faster. By the length of a key in bytes.", "small")
+    for i, (title, compared, pairs) in enumerate(chosen):
+        yield f'<g transform="translate({40 + i % 2 * 205} {100 + i // 2 * 194})">'
+        yield "".join(plot(title, compared, pairs)) + "</g>"
+    processor, gcc = re.search(r"processor: (.*?)(?: @|,).*compilers: gcc \(.*?\) (\d+)", table, re.S).groups()
+    yield text(14, 452, f"Medians of 101 rounds, {processor.replace('(R)', '')}, gcc {gcc}.", "small")
 
 
 def bar(x, y, width, kind):
@@ -104,23 +84,20 @@ def parquet():
     title, times = " ".join(about.split()).split(": ")
     queries = [(name, int(without), int(fast)) for name, without, fast in re.findall(r"([a-z ]+) (\d+), (\d+)", times)]
     longest = max(without for _, without, _ in queries)
-
-    def body():
-        yield text(14, 26, "DuckDB looks one value up", "title")
-        yield text(14, 44, "Milliseconds, in one test of DuckDB 2.0. Shorter is better.", "small")
-        for x, kind in ((14, "without"), (150, "with")):
-            yield bar(x, 58, 16, kind) + text(x + 22, 71, f"{kind} filters", "name")
-        for i, (name, *pair) in enumerate(queries):
-            y = 102 + 68 * i
-            yield text(14, y, name.strip(), "name")
-            for j, (time, kind) in enumerate(zip(pair, ("without", "with"))):
-                width = 330 * time / longest
-                yield bar(14, y + 7 + 19 * j, width, kind) + text(20 + width, y + 20 + 19 * j, time, "title")
-
-    return picture(370, title, about, body())
+    yield from head(370, title, about)
+    yield text(14, 26, "DuckDB looks one value up", "title")
+    yield text(14, 44, "Milliseconds, in one test of DuckDB 2.0. Shorter is better.", "small")
+    for x, kind in ((14, "without"), (150, "with")):
+        yield bar(x, 58, 16, kind) + text(x + 22, 71, f"{kind} filters", "name")
+    for i, (name, *pair) in enumerate(queries):
+        y = 102 + 68 * i
+        yield text(14, y, name.strip(), "name")
+        for j, (time, kind) in enumerate(zip(pair, ("without", "with"))):
+            width = 330 * time / longest
+            yield bar(14, y + 7 + 19 * j, width, kind) + text(20 + width, y + 20 + 19 * j, time, "title")
 
 
 if __name__ == "__main__":
     folder = Path(sys.argv[1]) if len(sys.argv) > 1 else DOCS
-    for name, drawn in (("speed", speed()), ("parquet", parquet())):
-        (folder / f"{name}.svg").write_text("\n".join(drawn) + "\n", encoding="utf-8")
+    for drawing in (speed, parquet):
+        (folder / f"{drawing.__name__}.svg").write_text("\n".join([*drawing(), "</svg>\n"]), encoding="utf-8")

@@ -6,14 +6,11 @@ import timeit
 import sketch_hash
 import xxhash
 
-CASES = [
-    *((f"`xxh64(data).{how}()`, {length} bytes", f"module.xxh64(data).{how}()", length)
-      for how in ("intdigest", "hexdigest") for length in (8, 64, 1024)),
-    *((f"`xxh64_intdigest(data)`, {length} bytes", "module.xxh64_intdigest(data)", length) for length in (8, 64, 1024)),
-    *((f"`update(data)`, {length} bytes", "hasher.update(data)", length) for length in (8, 1024)),
-    ("`digest()`", "hasher.digest()", 16),
-    ("`copy()`", "hasher.copy()", 16),
-]
+CALLS = {  # and the lengths of `data`
+    "module.xxh64(data).intdigest()": (8, 64, 1024), "module.xxh64(data).hexdigest()": (8, 64, 1024),
+    "module.xxh64_intdigest(data)": (8, 64, 1024), "hasher.update(data)": (8, 1024),
+    "hasher.digest()": (16,), "hasher.copy()": (16,),
+}
 seen = sketch_hash.BloomFilter.for_keys(100_000, error_rate=0.01)
 seen.add(bytes(16))
 
@@ -21,19 +18,20 @@ seen.add(bytes(16))
 def timer(call, length, module=xxhash):
     data = bytes(length)
     names = {"module": module, "hash": module.xxh64_intdigest, "hasher": module.xxh64(data), "seen": seen, "data": data}
-    timed = timeit.Timer(call, globals=names, timer=time.thread_time)
-    return lambda: timed.timeit(1000)
+    return timeit.Timer(call, globals=names, timer=time.thread_time)
 
 
 def compare(case, peer, ours, theirs):
-    times = [(ours(), theirs()) for _ in range(101)]
+    times = [(ours.timeit(1000), theirs.timeit(1000)) for _ in range(101)]
     ratios = sorted(our / their for our, their in times)
     nanoseconds = statistics.median(our for our, _ in times) * 1e6
     print(f"python\t{case}\t{peer}\t{ratios[50]:.2f}\t{ratios[10]:.2f}\t{ratios[90]:.2f}\t{nanoseconds:.1f}")
 
 
-for case, call, length in CASES:
-    compare(case, "python3-xxhash", *(timer(call, length, module) for module in (sketch_hash, xxhash)))
+for call, lengths in CALLS.items():
+    for length in lengths:
+        case = f"`{call.partition('.')[2]}`" + f", {length} bytes" * ("data" in call)
+        compare(case, "python3-xxhash", *(timer(call, length, module) for module in (sketch_hash, xxhash)))
 
 # A filter takes one hash of a key: compare it with that hash by python3-xxhash.
 one = timer("hash(data)", 16)

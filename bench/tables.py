@@ -7,21 +7,16 @@ import re
 from pathlib import Path
 
 docs = Path(__file__).resolve().parents[1] / "docs"
-cells = {}
-for line in (docs / "speed.tsv").read_text(encoding="utf-8").splitlines():
-    if not line.startswith("#"):
-        group, case, peer, *numbers = line.split("\t")
-        cells[group, case, peer] = numbers
+measured = re.findall(r"^(\w+)\t(.*?)\t(.*?)\t([\d.]+)", (docs / "speed.tsv").read_text(encoding="utf-8"), re.M)
+cells = {row[:3]: row[3] for row in measured}
 
 
 def filled(table):
     group, head, rule, rows = table.groups()
     peers = [peer.strip() for peer in head.strip("|\n").split("|")[1:]]
-    lines = []
-    for row in rows.splitlines():
-        case = row.split("|")[1].strip()
-        lines.append(f"| {case} | " + " | ".join(cells.get((group, case, peer), [""])[0] for peer in peers) + " |\n")
-    return f"<!-- {group} -->\n\n{head}{rule}{''.join(lines)}"
+    cases = [row.split("|")[1].strip() for row in rows.splitlines()]
+    ratios = {case: " | ".join(cells.get((group, case, peer), "") for peer in peers) for case in cases}
+    return f"<!-- {group} -->\n\n{head}{rule}" + "".join(f"| {case} | {some} |\n" for case, some in ratios.items())
 
 
 page = (docs / "speed.md").read_text(encoding="utf-8")

@@ -1,5 +1,6 @@
 """What several files of tests use: the calls on hashes, copies, threads, the rate of a filter, and columns of pyarrow."""
 import array
+import concurrent.futures
 import copy
 import decimal
 import fractions
@@ -11,27 +12,31 @@ import threading
 import time
 
 import sketch_hash
-from sketch_hash import murmur3_x64_128, xxh64
+from sketch_hash import BloomFilter, murmur3_x64_128, murmur3_x64_128_each, xxh64, xxh64_each
 
 KINDS = [xxh64, murmur3_x64_128]
 FORMS = ["digest", "hexdigest", "intdigest"]
+ON_COLUMNS = [xxh64_each, murmur3_x64_128_each, BloomFilter(32).add_each, BloomFilter(32).contains_each]
 ONE_CALL = [getattr(sketch_hash, f"{kind.__name__}_{form}") for kind in KINDS for form in FORMS]
 PICKLES = [lambda subject, n=n: pickle.loads(pickle.dumps(subject, n)) for n in range(6)]
 WAYS = [copy.copy, copy.deepcopy, lambda subject: subject.copy(), *PICKLES]
 
 MAP_NORESERVE = 0x4000 if sys.platform == "linux" else 0
-# They take no memory, since they are never written. A call on them takes a tenth of a second or more.
-ZEROS = mmap.mmap(-1, 1 << 31, flags=mmap.MAP_PRIVATE | mmap.MAP_ANONYMOUS | MAP_NORESERVE, prot=mmap.PROT_READ)
+
+
+def zeros(length):
+    """They take no memory, since they are never written."""
+    return mmap.mmap(-1, length, flags=mmap.MAP_PRIVATE | mmap.MAP_ANONYMOUS | MAP_NORESERVE, prot=mmap.PROT_READ)
+
+
+ZEROS = zeros((1 << 31) + 4096)  # a call on them takes a tenth of a second or more
 
 
 def in_threads(work):
-    """Runs work(0) to work(3) at the same time."""
+    """Runs work(0) to work(3) at the same time. Raises what one of them raises."""
     start = threading.Barrier(4)
-    workers = [threading.Thread(target=lambda n=n: (start.wait(), work(n))) for n in range(4)]
-    for worker in workers:
-        worker.start()
-    for worker in workers:
-        worker.join()
+    with concurrent.futures.ThreadPoolExecutor(4) as pool:
+        list(pool.map(lambda n: (start.wait(), work(n)), range(4)))
 
 
 def waits(long_call, call):
@@ -57,6 +62,13 @@ def assert_releases_the_gil(call, data, ticks, least=1):
         call(data)
         seen = len(ticks) - before
     assert seen >= least
+
+
+def hashes_of(each, keys, seed):
+    """What a call on a column returns, by single calls."""
+    call = getattr(sketch_hash, each.__name__.replace("each", "intdigest"))
+    hashes = [call(key, seed) for key in keys]
+    return [word for hash in hashes for word in divmod(hash, 2**64)] if each is murmur3_x64_128_each else hashes
 
 
 def rate_of(bloom):

@@ -115,10 +115,12 @@ def changed(file, change):
 
 
 def set_path(fields, group, column):
-    chunk = chunk_of(fields, group, column)
-    fields = {1: (TType.STRING, b"b.parquet"), **chunk}
-    chunk.clear()
-    chunk.update(fields)
+    chunk_of(fields, group, column)[1] = TType.STRING, b"b.parquet"
+
+
+def element_of(fields, name):
+    element, = (element for element in fields[2][1][1] if element[4][1] == name)
+    return element
 
 
 def texts(file, any_column, groups):

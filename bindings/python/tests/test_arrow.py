@@ -7,8 +7,8 @@ import subprocess
 import sys
 
 import pytest
-from helpers import TYPES, assert_releases_the_gil, column_of
-from sketch_hash import BloomFilter, murmur3_x64_128_each, murmur3_x64_128_intdigest, parquet, xxh64_each, xxh64_intdigest
+from helpers import ON_COLUMNS, TYPES, assert_releases_the_gil, column_of, hashes_of
+from sketch_hash import BloomFilter, murmur3_x64_128_each, parquet, xxh64_each, xxh64_intdigest
 from sketch_hash.parquet.pyarrow_values import stored_values
 
 P, I64 = ctypes.c_void_p, ctypes.c_int64
@@ -148,14 +148,12 @@ def check(make, keys):
     assert bloom == expected
     assert bloom.contains_each(make()).tolist() == [key is not None for key in keys]
     assert BloomFilter(32).contains_each(make()).tolist() == [False] * len(keys)
-    if len(there) < len(keys):
-        for call in (xxh64_each, murmur3_x64_128_each):
+    for call in (xxh64_each, murmur3_x64_128_each):
+        if len(there) < len(keys):
             with pytest.raises(ValueError, match=f"^the key at {keys.index(None)} must not be null: a null has no"):
                 call(make())
-    else:
-        assert xxh64_each(make(), seed).tolist() == [xxh64_intdigest(key, seed) for key in keys]
-        pairs = [divmod(murmur3_x64_128_intdigest(key, seed), 2**64) for key in keys]
-        assert murmur3_x64_128_each(make(), seed).tolist() == [word for pair in pairs for word in pair]
+        else:
+            assert call(make(), seed).tolist() == hashes_of(call, keys, seed)
 
 
 @pytest.fixture
@@ -291,9 +289,6 @@ def test_a_signal_ends_a_call_on_many_rows(rows, call):
     assert done.stdout == "stopped\n", done.stderr
 
 
-CALLS = [xxh64_each, murmur3_x64_128_each, BloomFilter(32).add_each, BloomFilter(32).contains_each]
-
-
 @pytest.mark.parametrize("format, text", [
     ("b", "bools, here 'b': Parquet has no Bloom filters of them"),
     ("tdm", "date64, here 'tdm': Parquet stores days: cast it to \"date32\""),
@@ -305,7 +300,7 @@ CALLS = [xxh64_each, murmur3_x64_128_each, BloomFilter(32).add_each, BloomFilter
 ])
 @pytest.mark.parametrize("is_coded", [False, True], ids=["values", "dictionary"])
 def test_an_unsupported_type_raises_with_the_cure(format, text, is_coded, producer):
-    for call in CALLS:
+    for call in ON_COLUMNS:
         for make in (producer.exported, producer.streamed):
             schema = producer.schema("i", producer.inner.schema(format)) if is_coded else producer.schema(format)
             with pytest.raises(TypeError, match=f"^an Arrow column must not have {text}"):
@@ -347,7 +342,7 @@ BROKEN = {  # a format, a length, buffers, other fields, what it must have
 @pytest.mark.parametrize("format, length, buffers, fields, text", BROKEN.values(), ids=BROKEN)
 def test_a_broken_array_is_an_error_and_nothing_added(format, length, buffers, fields, text, producer):
     bloom = BloomFilter(32)
-    for call in (*CALLS, bloom.add_each):
+    for call in (*ON_COLUMNS, bloom.add_each):
         good = producer.array(1, *buffers_of(format, [values_of(format)[0]]))
         for make, chunks in ((producer.exported, []), (producer.streamed, [good])):
             array = producer.array(length, *buffers, **{k: v for k, v in fields.items() if k != "release"})
@@ -362,7 +357,7 @@ def test_a_broken_array_is_an_error_and_nothing_added(format, length, buffers, f
 
 @pytest.mark.parametrize("codes", [[0, 4], [-1, 0], [127, 0]])
 def test_a_code_outside_its_dictionary_is_an_error(codes, producer):
-    for call in CALLS:
+    for call in ON_COLUMNS:
         dictionary = producer.inner.array(4, *buffers_of("u", [b"fox"] * 4))
         with pytest.raises(ValueError, match="^an Arrow array must have codes within its dictionary$"):
             call(producer.exported(producer.schema("c", producer.inner.schema("u")),
@@ -375,7 +370,7 @@ def test_a_code_outside_its_dictionary_is_an_error(codes, producer):
 ])
 def test_a_stream_that_fails_is_an_error_and_nothing_added(schema, error, text, message, producer):
     bloom = BloomFilter(32)
-    for call in (*CALLS, bloom.add_each):
+    for call in (*ON_COLUMNS, bloom.add_each):
         made = schema and producer.schema(schema)
         chunks = [producer.array(1, *buffers_of("u", [b"fox"]))] if schema else []
         with pytest.raises(ValueError, match=f"^the Arrow stream failed: {message}$"):
@@ -392,7 +387,7 @@ RELEASED = Schema(), Array(), Stream()
     ("__arrow_c_array__", (capsule(RELEASED[0]), capsule(RELEASED[1]))), ("__arrow_c_stream__", capsule(RELEASED[2])),
 ], ids=["None", "numbers", "three", "a stream", "no stream", "a released array", "a released stream"])
 def test_invalid_results_of_the_methods_raise(method, value):
-    for call in CALLS:
+    for call in ON_COLUMNS:
         with pytest.raises((TypeError, ValueError)):
             call(type("Strange", (), {method: lambda _: value})())
 
@@ -402,7 +397,7 @@ def test_the_methods_of_the_class_are_called():
     strange.__arrow_c_array__ = lambda: pytest.fail("called")
     for keys in (strange, type("Kind", (), {"__arrow_c_array__": lambda _: pytest.fail("called")})):
         with pytest.raises(TypeError, match="^a column must be"):
-            CALLS[0](keys)
+            ON_COLUMNS[0](keys)
 
 
 @pytest.mark.parametrize("format, buffer", [("u", 0), ("u", 1), ("u", 2), ("vu", 1), ("vu", 2), ("l", 1), ("w:3", 1)])
@@ -428,7 +423,7 @@ def test_a_column_in_the_memory_of_the_filter_is_an_error(format, buffer, produc
         assert memory == before
 
 
-@pytest.mark.parametrize("call", CALLS)
+@pytest.mark.parametrize("call", ON_COLUMNS)
 def test_rows_of_one_long_text_release_the_gil(call, producer, ticks):
     """By the bytes that are hashed, 256 MB here, and not by those of the dictionary. To check an array releases it too, for
     a moment."""

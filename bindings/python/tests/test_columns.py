@@ -2,16 +2,14 @@
 import array
 import ctypes
 import itertools
-import mmap
 import random
 
 import pytest
 import sketch_hash
-from helpers import MAP_NORESERVE
+from helpers import ZEROS, hashes_of
 from sketch_hash import BloomFilter, murmur3_x64_128_each, xxh64_each
 
 numpy = pytest.importorskip("numpy")
-xxhash = pytest.importorskip("xxhash")
 
 KEYS = [random.Random(7).randbytes(length % 101) for length in range(1000)]
 DATA = b"".join(KEYS)
@@ -21,15 +19,6 @@ WIDTHS = pytest.mark.parametrize("dtype", ["int32", "uint32", "int64", "uint64"]
 EACH = [xxh64_each, murmur3_x64_128_each]
 BLOOM = BloomFilter(1024)
 BLOOM.add(b"fox")
-# They take no memory, since they are never written.
-LONG_ZEROS = mmap.mmap(-1, (1 << 31) + 4096, flags=mmap.MAP_PRIVATE | mmap.MAP_ANONYMOUS | MAP_NORESERVE)
-
-
-def expected(each, keys, seed):
-    if each is xxh64_each:
-        return [xxhash.xxh64_intdigest(key, seed) for key in keys]
-    pairs = [divmod(sketch_hash.murmur3_x64_128_intdigest(key, seed), 2**64) for key in keys]
-    return [word for pair in pairs for word in pair]
 
 
 @pytest.mark.parametrize("each", EACH)
@@ -37,10 +26,10 @@ def expected(each, keys, seed):
 def test_each_key_has_the_hash_of_a_single_call(each, dtype):
     offsets = numpy.array(OFFSETS, dtype)
     for data in (DATA, bytearray(DATA), numpy.frombuffer(DATA, "uint8")):
-        assert each((data, offsets), 2**64 - 1).tolist() == expected(each, KEYS, 2**64 - 1)
+        assert each((data, offsets), 2**64 - 1).tolist() == hashes_of(each, KEYS, 2**64 - 1)
     # Offsets of 32 bits may be at 4 modulo 8.
     for begin in (500, 501):
-        assert each((DATA, offsets[begin:601])).tolist() == expected(each, KEYS[begin:600], 0)
+        assert each((DATA, offsets[begin:601])).tolist() == hashes_of(each, KEYS[begin:600], 0)
 
 
 @pytest.mark.parametrize("dtype", ["int64", "uint64"])
@@ -48,7 +37,7 @@ def test_each_number_has_the_hash_of_its_bytes(dtype):
     numbers = numpy.array([0, 1, 2**40, 2**62, *range(1000)], dtype)
     hashes = [xxh64_each(numbers, seed) for seed in (2**64 - 1, 0)]  # each has its own memory
     for seed, found in zip((2**64 - 1, 0), hashes):
-        assert found.tolist() == expected(xxh64_each, [number.tobytes() for number in numbers], seed)
+        assert found.tolist() == hashes_of(xxh64_each, [number.tobytes() for number in numbers], seed)
     assert numpy.asarray(found).dtype == numpy.uint64
 
 
@@ -141,9 +130,9 @@ def test_a_negative_offset_is_an_error_beyond_2_gib(call):
     first = -2**31  # 2**31 without a sign
     for offsets, index in (([first, first + 3], 0), ([5, first], 1), ([0, 5, -1], 2)):
         with pytest.raises(ValueError, match=f"^the offset at {index} is missing, past the end or below"):
-            call((LONG_ZEROS, array.array("i", offsets)))
-    call((LONG_ZEROS, array.array("I", [2**31, 2**31 + 3])))
-    call((LONG_ZEROS, array.array("i", [2**31 - 4, 2**31 - 1])))
+            call((ZEROS, array.array("i", offsets)))
+    call((ZEROS, array.array("I", [2**31, 2**31 + 3])))
+    call((ZEROS, array.array("i", [2**31 - 4, 2**31 - 1])))
 
 
 def test_a_column_of_texts_is_their_bytes_and_offsets():

@@ -7,7 +7,7 @@ import mmap
 
 import pytest
 import sketch_hash
-from helpers import FORMS, KINDS, MAP_NORESERVE, ONE_CALL, ZEROS, waits
+from helpers import FORMS, KINDS, ONE_CALL, ZEROS, waits, zeros
 from sketch_hash import murmur3_x64_128, xxh64
 
 numpy = pytest.importorskip("numpy")
@@ -109,19 +109,17 @@ def test_a_second_init_that_raises_changes_nothing(kind, args):
 
 
 def test_an_input_may_be_longer_than_4_gib():
-    """The zeros take no memory, since they are never written."""
-    flags = mmap.MAP_PRIVATE | mmap.MAP_ANONYMOUS | MAP_NORESERVE
-    with mmap.mmap(-1, (1 << 32) + 37, flags=flags, prot=mmap.PROT_READ) as zeros:
-        seed, all_zeros = 2**64 - 1, (zeros, array.array("Q", [0, len(zeros)]))
+    with zeros((1 << 32) + 37) as data:
+        seed, column = 2**64 - 1, (data, array.array("Q", [0, len(data)]))
         for kind, expected in ((xxh64, 0x9AE583956774714E), (murmur3_x64_128, 0x0B42F570045FBE6CE4DB2F081F3AE5B5)):
-            assert kind(zeros, seed).intdigest() == expected
-            assert getattr(sketch_hash, f"{kind.__name__}_intdigest")(zeros, seed) == expected
-            hashes = getattr(sketch_hash, f"{kind.__name__}_each")(all_zeros, seed)
+            assert kind(data, seed).intdigest() == expected
+            assert getattr(sketch_hash, f"{kind.__name__}_intdigest")(data, seed) == expected
+            hashes = getattr(sketch_hash, f"{kind.__name__}_each")(column, seed)
             assert int.from_bytes(b"".join(word.to_bytes(8, "big") for word in hashes), "big") == expected
         bloom = sketch_hash.BloomFilter(1024)
-        bloom.add(zeros)
-        bloom.add_each((zeros, array.array("I", [1 << 31, (1 << 31) + 3])))  # offsets of 32 bits have no sign
-        assert bloom.contains_hashes(sketch_hash.xxh64_each(all_zeros)).tolist() == [True] and bytes(3) in bloom
+        bloom.add(data)
+        bloom.add_each((data, array.array("I", [1 << 31, (1 << 31) + 3])))  # offsets of 32 bits have no sign
+        assert bloom.contains_hashes(sketch_hash.xxh64_each(column)).tolist() == [True] and bytes(3) in bloom
 
 
 # ---- Buffers

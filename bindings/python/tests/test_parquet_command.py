@@ -22,10 +22,7 @@ pytestmark = pytest.mark.filterwarnings("ignore:the filters of")
 def test_nanoseconds_of_a_command_line_count():
     """Python's fromisoformat drops them."""
     columns = {leaf.name: leaf for leaf in parquet.open(FILTERS).footer.columns()}
-
-    def keys(name, text):
-        return keys_of(parse(text, columns[name]), columns[name])
-
+    keys = lambda name, text: keys_of(parse(text, columns[name]), columns[name])
     whole = keys("ns", "2026-01-01 01:01:01.000003")
     for digits, more in (("007", 7), ("07", 70), ("999", 999), ("000", 0)):
         assert keys("ns", f"2026-01-01 01:01:01.000003{digits}") == [
@@ -89,6 +86,7 @@ def test_a_command_line_has_the_values_of_each_type():
 
 
 def test_the_command_shows_and_asks():
+    assert run("--version").stdout == f"sketch_hash {sketch_hash.__version__}\n"
     done = run("show", FILTERS)
     rows = [line.split("\t") for line in done.stdout.splitlines()]
     assert {(int(group), name): int(num_bytes) for _, group, name, num_bytes, _ in rows} == parquet.filters(FILTERS)
@@ -127,10 +125,6 @@ def test_a_link_and_its_target_are_one_file(tmp_path):
     assert parquet.remove_filters(tmp_path, tmp_path) == 3 * len(VALUES)
     assert parquet.remove_filters(tmp_path, tmp_path / "new") == 0  # of three files
     assert {*os.listdir(tmp_path / "new")} == {"a.parquet", "b.parquet", "c.parquet"}
-
-
-def test_the_command_has_a_version():
-    assert run("--version").stdout == f"sketch_hash {sketch_hash.__version__}\n"
 
 
 def test_the_command_adds_and_checks(pa, tmp_path):

@@ -13,7 +13,7 @@ import warnings
 
 import pytest
 from faulty_store import Calls, does_nothing, error_of, fails, fails_when_done, is_interrupted, is_interrupted_when_done
-from parquet_files import FILTERS, ODD, VALUES, TType, changed, chunk_of, metadata_of, set_path, split, texts
+from parquet_files import FILTERS, ODD, VALUES, TType, changed, chunk_of, element_of, metadata_of, set_path, split, texts
 from sketch_hash import column, parquet
 from sketch_hash.parquet import writer
 from sketch_hash.parquet.files import Source
@@ -45,13 +45,7 @@ def test_all_but_the_places_of_the_filters_stays_as_it_is(copy, tmp_path):
 
 def test_progress_is_drawn_as_tqdm_does(copy):
     drawn = []
-
-    def progress(steps, total):
-        for step in steps:
-            drawn.append(total)
-            yield step
-
-    parquet.add_filters(copy, copy, ["plain", "b"], progress=progress)
+    parquet.add_filters(copy, copy, ["plain", "b"], progress=lambda steps, total: (drawn.append(total) for _ in steps))
     assert drawn == [6] * 6
 
 
@@ -70,17 +64,13 @@ def test_a_bar_that_lies_changes_no_file(progress, copy, tmp_path):
 ])
 def test_filters_that_duckdb_does_not_use_are_noted(name, text, copy, tmp_path):
     file = tmp_path / "a.parquet"
-    file.write_bytes(changed(FILTERS, lambda fields: set_zone(fields, b"time_us")).read())
+    with_zone = lambda fields: element_of(fields, b"time_us")[10][1][7][1].update({1: (TType.BOOL, True)})
+    file.write_bytes(changed(FILTERS, with_zone).read())
     with warnings.catch_warnings(record=True) as notes:
         warnings.simplefilter("always")
         parquet.add_filters(file, file, [name], replace=True)
     expected = [f"the filters of {name} help little: DuckDB 2.0 uses none of {text}"] if text else []
     assert [str(note.message) for note in notes] == expected
-
-
-def set_zone(fields, name):
-    element, = (element for element in fields[2][1][1] if element[4][1] == name)
-    element[10][1][7][1][1] = TType.BOOL, True
 
 
 def test_filters_that_cannot_be_checked_are_named(tmp_path):
@@ -124,16 +114,10 @@ def test_a_file_does_not_grow_with_each_night(copy):
     assert copy.read_bytes() == after  # of the first night
 
 
-def move_pages(fields):
-    metadata_of(fields, 2, 0)[9] = TType.I64, 10**6
-
-
-def share_filter(fields):
-    metadata_of(fields, 2, 0).update({number: metadata_of(fields, 2, 5)[number] for number in (OFFSET, LENGTH)})
-
-
 @pytest.mark.parametrize("change", [
-    move_pages, share_filter, lambda fields: metadata_of(fields, 1, 0).update({OFFSET: (TType.I64, -1)}),
+    lambda fields: metadata_of(fields, 2, 0).update({9: (TType.I64, 10**6)}),
+    lambda fields: metadata_of(fields, 2, 0).update({key: metadata_of(fields, 2, 5)[key] for key in (OFFSET, LENGTH)}),
+    lambda fields: metadata_of(fields, 1, 0).update({OFFSET: (TType.I64, -1)}),
     lambda fields: set_path(fields, 2, 0), lambda fields: chunk_of(fields, 2, 0).update(
         {4: (TType.I64, 10**6), 5: (TType.I32, 100)}),
 ], ids=["pages", "filter of two columns", "damaged filter", "other file", "index"])
@@ -168,12 +152,9 @@ def test_a_file_of_a_table_is_not_changed_in_place(mark, copy, tmp_path):
     assert table.read_bytes() == ODD.read_bytes() and parquet.add_filters(table, tmp_path / "data/b.parquet", ["plain"]) > 0
 
 
-def count(values):
-    return lambda fields: [metadata_of(fields, group, 5).update({VALUE_COUNT: (TType.I64, values)}) for group in range(3)]
-
-
 def test_a_filter_is_no_larger_than_it_may_be(copy, tmp_path, monkeypatch):
-    copy.write_bytes(changed(ODD, count(2**40)).read())
+    count = {VALUE_COUNT: (TType.I64, 2**40)}
+    copy.write_bytes(changed(ODD, lambda fields: [metadata_of(fields, group, 5).update(count) for group in range(3)]).read())
     assert parquet.add_filters(copy, tmp_path / "b", ["plain"]) < 1000  # the values are few
     with pytest.warns(UserWarning, match="^the filters of plain help little: max_bytes is too small for them$"):
         monkeypatch.setattr(writer, "stored_values", lambda *_: ((i, [column(map(str, range(999)))]) for i in range(3)))
@@ -186,18 +167,9 @@ def test_a_filter_is_no_larger_than_it_may_be(copy, tmp_path, monkeypatch):
         parquet.add_filters(copy, tmp_path / "c", ["plain"], max_bytes=31)
 
 
-def test_a_column_whose_row_groups_are_alike_is_named(copy, monkeypatch):
-    monkeypatch.setattr(writer, "stored_values", lambda *_: ((i, [column(["x", "y"][:3 - i])]) for i in range(3)))
-    with pytest.warns(UserWarning, match="^the filters of plain help little: all row groups have the same values$"):
-        parquet.add_filters(copy, copy, ["plain"])
-
-
-def sign(fields):
-    fields[8] = TType.STRUCT, {1: (TType.STRUCT, {})}
-
-
 @pytest.mark.parametrize("names, change, text", [
-    (["plain"], sign, "the footer must not be signed: each change"),
+    (["plain"], lambda fields: fields.update({8: (TType.STRUCT, {1: (TType.STRUCT, {})})}),
+     "the footer must not be signed: each change"),
     (["plain"], lambda fields: chunk_of(fields, 1, 5).pop(3), "the column plain must not be encrypted"),
     (["plain"], lambda fields: set_path(fields, 1, 5), "the column plain must be in this file alone, not in those"),
     (["bool"], None, "must not be BOOLEAN"), (["half"], None, "must not be FLOAT16: DuckDB"),
@@ -220,12 +192,10 @@ def annotate(**fields):
     numbers = {"type": 1, "converted": 6, "precision": 8, "logical": 10}
 
     def change(footer):
-        element, = (element for element in footer[2][1][1] if element[4][1] == b"decimal30")
+        element = element_of(footer, b"decimal30")
         for number in (6, 8, 10):
             element.pop(number, None)
-        changed = {**element, **{numbers[name]: value for name, value in fields.items()}}
-        element.clear()
-        element.update(sorted(changed.items()))
+        element.update({numbers[name]: value for name, value in fields.items()})
     return change
 
 
@@ -266,13 +236,6 @@ def test_an_encrypted_footer_is_an_error(copy):
             call()
 
 
-def test_an_error_while_values_are_read_leaves_the_target(copy, tmp_path, monkeypatch):
-    monkeypatch.setattr(writer, "stored_values", lambda *_: iter([(0, [5])]))
-    with pytest.raises(TypeError):
-        parquet.add_filters(copy, copy, ["plain"])
-    assert copy.read_bytes() == ODD.read_bytes() and os.listdir(tmp_path) == ["a.parquet"]
-
-
 def test_a_file_that_changes_meanwhile_is_an_error(copy, tmp_path, monkeypatch):
     meanwhile(monkeypatch, lambda: os.replace(shutil.copy(FILTERS, tmp_path / "b"), copy))
     with pytest.raises(ValueError, match="^the file must not change while it is read$"):
@@ -285,35 +248,27 @@ def test_a_target_that_changes_meanwhile_is_not_overwritten(old, copy, tmp_path,
     target = tmp_path / "b.parquet"
     if old:
         target.write_bytes(old)
-
     meanwhile(monkeypatch, lambda: target.write_bytes(b"other data"))
     with pytest.raises(ValueError, match="^the file to replace must not change while its successor is written$"):
         parquet.add_filters(copy, target, ["plain"])
     assert target.read_bytes() == b"other data" and set(os.listdir(tmp_path)) == {"a.parquet", "b.parquet"}
 
 
-def test_of_two_runs_on_one_file_the_second_fails(copy, monkeypatch):
+@pytest.mark.parametrize("flock, second, first, names", [
+    (fcntl.flock, "the file is locked by another program, or another run is replacing it", "None", {"plain"}),
+    (lambda *_: os.stat("/none"), "None", "the file must not change while it is read", {"b"}),
+], ids=["the second", "the first without locks"])
+def test_of_two_runs_on_one_file_one_fails(flock, second, first, names, copy, monkeypatch):
     def second_run():
         monkeypatch.setattr(writer, "stored_values", texts)
-        with pytest.raises(ValueError, match="^the file is locked by another program, or another run is replacing it$"):
-            parquet.add_filters(copy, copy, ["b"])
+        errors.append(str(error_of(parquet.add_filters, copy, copy, ["b"])))
 
+    errors = []
     meanwhile(monkeypatch, second_run)
-    parquet.add_filters(copy, copy, ["plain"])
-    parquet.add_filters(copy, copy, ["b"])
-    assert {name for _, name in parquet.filters(copy)} == {"plain", "b"}
-
-
-def test_of_two_runs_on_one_file_the_first_fails_if_there_are_no_locks(copy, monkeypatch):
-    def second_run():
-        monkeypatch.setattr(writer, "stored_values", texts)
-        parquet.add_filters(copy, copy, ["b"])
-
-    meanwhile(monkeypatch, second_run)
-    monkeypatch.setattr("fcntl.flock", lambda *_: os.stat("/none"))
-    with pytest.raises(ValueError, match="must not change"):
-        parquet.add_filters(copy, copy, ["plain"])
-    assert {name for _, name in parquet.filters(copy)} == {"b"}
+    monkeypatch.setattr("fcntl.flock", flock)
+    errors.append(str(error_of(parquet.add_filters, copy, copy, ["plain"])))
+    assert errors == [second, first] and {name for _, name in parquet.filters(copy)} == names
+    parquet.add_filters(copy, copy, ["b"], replace=True)
 
 
 def test_what_others_put_in_place_of_the_new_file_is_not_touched(copy, tmp_path, monkeypatch):
@@ -398,12 +353,12 @@ def test_a_file_is_the_old_or_the_new_one_whatever_system_call_goes_wrong(fault,
     assert (True, True) in seen and count > 20
 
 
-def test_a_missing_pyarrow_is_named(copy, tmp_path, monkeypatch):
+def test_a_missing_pyarrow_is_named_and_the_target_stays(copy, tmp_path, monkeypatch):
     monkeypatch.setattr(writer, "stored_values", stored_values)
     monkeypatch.setitem(sys.modules, "pyarrow", None)
     with pytest.raises(ImportError, match="^this call needs pyarrow: pip install pyarrow$"):
-        parquet.add_filters(copy, tmp_path / "b.parquet", ["plain"])
-    assert os.listdir(tmp_path) == ["a.parquet"]
+        parquet.add_filters(copy, copy, ["plain"])
+    assert copy.read_bytes() == ODD.read_bytes() and os.listdir(tmp_path) == ["a.parquet"]
 
 
 def test_a_file_keeps_its_owner_mode_and_attributes(copy, tmp_path):
@@ -421,20 +376,18 @@ def test_a_file_keeps_its_owner_mode_and_attributes(copy, tmp_path):
     assert {name: os.getxattr(copy, name) for name in os.listxattr(copy)} == attributes and after.st_ino != before.st_ino
 
 
-def test_what_a_user_may_not_keep_is_noted(copy, monkeypatch):
-    def may_not(*args):
-        raise PermissionError
-
-    monkeypatch.setattr(os, "fchown", may_not)
-    with pytest.warns(UserWarning, match="^the new file lacks what this user may not set: owner, group$"):
+@pytest.mark.parametrize("prepare, text", [
+    (lambda copy, patch: patch(os, "fchown", fails), "the new file lacks what this user may not set: owner, group"),
+    (lambda copy, patch: copy.with_name(".a.parquet.crc").write_bytes(b"crc"),
+     "Hadoop's checksum .a.parquet.crc is that of the old file: delete it"),
+    (lambda copy, patch: patch(writer, "stored_values", lambda *_: ((i, [column(["x", "y"][:3 - i])]) for i in range(3))),
+     "the filters of plain help little: all row groups have the same values"),
+], ids=["owner", "checksum of Hadoop", "row groups that are alike"])
+def test_what_is_lost_or_helps_little_is_noted(prepare, text, copy, monkeypatch):
+    prepare(copy, monkeypatch.setattr)
+    with pytest.warns(UserWarning, match=f"^{text}$"):
         parquet.add_filters(copy, copy, ["plain"])
     assert len(parquet.filters(copy)) == 3
-
-
-def test_a_checksum_of_hadoop_that_is_wrong_from_then_on_is_noted(copy, tmp_path):
-    (tmp_path / ".a.parquet.crc").write_bytes(b"crc")
-    with pytest.warns(UserWarning, match="^Hadoop's checksum .a.parquet.crc is that of the old file: delete it$"):
-        parquet.add_filters(copy, copy, ["plain"])
 
 
 def test_what_killed_runs_left_is_removed_by_the_next(copy, tmp_path):

@@ -4,7 +4,7 @@ import fractions
 import signal
 
 import pytest
-from helpers import KINDS, ONE_CALL, WAYS, assert_releases_the_gil, in_threads
+from helpers import KINDS, ON_COLUMNS, ONE_CALL, WAYS, assert_releases_the_gil, in_threads
 from sketch_hash import BloomFilter, murmur3_x64_128, murmur3_x64_128_each, xxh64, xxh64_each
 
 numpy = pytest.importorskip("numpy")
@@ -57,14 +57,11 @@ def test_threads_may_share_an_object(kind):
     assert hasher.digest() == kind((piece + piece[:256]) * 160).digest()
 
 
-def add_each(bloom, data):
-    bloom.add_each((data, array.array("Q", [0, len(data)])))
-
-
 @pytest.mark.parametrize("make, append, ask", [
     (xxh64, xxh64.update, xxh64.digest),
     (murmur3_x64_128, murmur3_x64_128.update, murmur3_x64_128.digest),
-    (lambda: BloomFilter(1024), add_each, BloomFilter.to_bytes),
+    (lambda: BloomFilter(1024), lambda bloom, data: bloom.add_each((data, array.array("Q", [0, len(data)]))),
+     BloomFilter.to_bytes),
 ], ids=["xxh64", "murmur3_x64_128", "BloomFilter"])
 def test_a_signal_handler_may_call_the_object(make, append, ask):
     """It runs after the call of C, while the object's lock is held."""
@@ -99,10 +96,7 @@ def test_calls_of_64_kib_release_the_gil(call, length, ticks):
     assert_releases_the_gil(call, bytes(length), ticks)
 
 
-BLOOM = BloomFilter(32)
-
-
-@pytest.mark.parametrize("call", [xxh64_each, murmur3_x64_128_each, BLOOM.add_each, BLOOM.contains_each])
+@pytest.mark.parametrize("call", ON_COLUMNS)
 def test_columns_of_64_kib_release_the_gil(call, ticks):
     assert_releases_the_gil(call, (bytes(1 << 24), array.array("I", range(100_000))), ticks)
     assert_releases_the_gil(call, (b"", array.array("Q", bytes(1 << 20))), ticks)

@@ -82,18 +82,13 @@ cdef int get_key(object key, View *memory) except -1:
     return 0
 
 
-cdef int insert_column(void *bits, size_t length, Column column, size_t *wrong) noexcept nogil:
-    if column.arrow is None:
+cdef int insert_or_find(void *bits, size_t length, Column column, unsigned char *found, size_t *wrong) noexcept nogil:
+    """Writes to `found` whether the filter may have each key, or inserts the keys if that is NULL."""
+    if column.arrow is not None:
+        return column.arrow.insert_or_find(bits, length, found, wrong)
+    if found is NULL:
         return insert_keys(bits, length, &column.keys, wrong)
-    return column.arrow.insert(bits, length, wrong)
-
-
-cdef int contains_column(
-    const void *bits, size_t length, Column column, unsigned char *found, size_t *wrong
-) noexcept nogil:
-    if column.arrow is None:
-        return contains_keys(bits, length, &column.keys, found, wrong)
-    return column.arrow.contains(bits, length, found, wrong)
+    return contains_keys(bits, length, &column.keys, found, wrong)
 
 
 cdef int check_length(object length) except -1:
@@ -382,26 +377,27 @@ cdef class BloomFilter:
         for key in keys:
             self.add(key)
 
-    cdef int insert(self, Column keys) except -1:
-        self.insert_rows(keys)
+    cdef int insert_or_find(self, Column keys, unsigned char *found) except -1:
+        """Writes to `found` whether the filter may have each key, or inserts the keys if that is NULL."""
+        self.rows(keys, found)
         while keys.check_signals_if_more():
-            self.insert_rows(keys)
+            self.rows(keys, found)
         return 0
 
-    cdef int insert_rows(self, Column keys) except -1:
+    cdef int rows(self, Column keys, unsigned char *found) except -1:
         cdef size_t wrong = 0
         cdef int status
         cdef bint is_long = keys.size() >= LONG
         self.begin(is_long)
-        if self.bits.readonly:
+        if found is NULL and self.bits.readonly:
             status = READ_ONLY
-        elif keys.overlaps(self.bits.buf, self.bits.len):
+        elif found is NULL and keys.overlaps(self.bits.buf, self.bits.len):
             status = OVERLAP
         elif is_long:
             with nogil:
-                status = insert_column(self.bits.buf, self.bits.len, keys, &wrong)
+                status = insert_or_find(self.bits.buf, self.bits.len, keys, found, &wrong)
         else:
-            status = insert_column(self.bits.buf, self.bits.len, keys, &wrong)
+            status = insert_or_find(self.bits.buf, self.bits.len, keys, found, &wrong)
         if is_long:
             release(self.lock)
         check_offsets(status, wrong)
@@ -409,24 +405,8 @@ cdef class BloomFilter:
 
     cdef object contains(self, Column keys):
         found = bytearray(keys.count)
-        self.contains_rows(keys, <unsigned char *>PyByteArray_AS_STRING(found))
-        while keys.check_signals_if_more():
-            self.contains_rows(keys, <unsigned char *>PyByteArray_AS_STRING(found))
+        self.insert_or_find(keys, <unsigned char *>PyByteArray_AS_STRING(found))
         return memoryview(found).cast("?")
-
-    cdef int contains_rows(self, Column keys, unsigned char *found) except -1:
-        cdef size_t wrong = 0
-        cdef int status
-        cdef bint is_long = keys.size() >= LONG
-        self.begin(is_long)
-        if is_long:
-            with nogil:
-                status = contains_column(self.bits.buf, self.bits.len, keys, found, &wrong)
-            release(self.lock)
-        else:
-            status = contains_column(self.bits.buf, self.bits.len, keys, found, &wrong)
-        check_offsets(status, wrong)
-        return self.check(status)
 
     def add_each(self, keys):
         """add_each($self, keys, /)\n--\n\nAdds each key of a column.
@@ -436,7 +416,7 @@ cdef class BloomFilter:
         that width; so ask with numbers of the same width. Or they are an Arrow array or stream, of whose values each
         counts as Parquet stores it; a null is not added. If ValueError is raised, nothing was added.
         """
-        self.insert(keys_of(keys))
+        self.insert_or_find(keys_of(keys), NULL)
 
     def contains_each(self, keys):
         """contains_each($self, keys, /)\n--\n\nReturns whether the filter may have each key of a column, as for
@@ -445,7 +425,7 @@ cdef class BloomFilter:
 
     def add_hashes(self, hashes):
         """add_hashes($self, hashes, /)\n--\n\nAdds the keys with these XXH64 of the seed 0, as of xxh64_each."""
-        self.insert(hashes_of(hashes))
+        self.insert_or_find(hashes_of(hashes), NULL)
 
     def contains_hashes(self, hashes):
         """contains_hashes($self, hashes, /)\n--\n\nReturns whether the filter may have each key with these XXH64 of the

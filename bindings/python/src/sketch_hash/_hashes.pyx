@@ -71,8 +71,8 @@ cdef class _Hasher:
     cdef void feed(self, const void *data, size_t length) noexcept nogil:
         """Appends data."""
 
-    cdef int answer(self, uint64_t *words) noexcept nogil:
-        """Writes the words of the hash of all data so far, and returns how many these are."""
+    cdef int answer(self, uint64_t *words) noexcept:
+        """Waits for a long call, writes the words of the hash of all data so far, and returns how many these are."""
         return 0
 
     cdef size_t state_size(self) noexcept:
@@ -153,7 +153,8 @@ cdef class xxh64(_Hasher):
     cdef void feed(self, const void *data, size_t length) noexcept nogil:
         sketch_xxh64_update(&self.state.xxh64, data, length)
 
-    cdef int answer(self, uint64_t *words) noexcept nogil:
+    cdef int answer(self, uint64_t *words) noexcept:
+        wait(<void *>self.lock)
         words[0] = sketch_xxh64_digest(&self.state.xxh64)
         return 1
 
@@ -167,19 +168,16 @@ cdef class xxh64(_Hasher):
     def digest(self):
         """digest($self)\n--\n\nReturns the hash of all data so far as 8 bytes, the highest first."""
         cdef uint64_t words[2]
-        wait(<void *>self.lock)
         return digest_of(words, self.answer(words))
 
     def hexdigest(self):
         """hexdigest($self)\n--\n\nReturns the digest in lower-case hexadecimal."""
         cdef uint64_t words[2]
-        wait(<void *>self.lock)
         return hex_of(words, self.answer(words))
 
     def intdigest(self):
         """intdigest($self)\n--\n\nReturns the digest as a whole number."""
         cdef uint64_t words[2]
-        wait(<void *>self.lock)
         return int_of(words, self.answer(words))
 
     def copy(self):
@@ -213,7 +211,8 @@ cdef class murmur3_x64_128(_Hasher):
     cdef void feed(self, const void *data, size_t length) noexcept nogil:
         sketch_murmur3_x64_128_update(&self.state.murmur, data, length)
 
-    cdef int answer(self, uint64_t *words) noexcept nogil:
+    cdef int answer(self, uint64_t *words) noexcept:
+        wait(<void *>self.lock)
         sketch_murmur3_x64_128_digest(&self.state.murmur, words)
         return 2
 
@@ -227,19 +226,16 @@ cdef class murmur3_x64_128(_Hasher):
     def digest(self):
         """digest($self)\n--\n\nReturns the hash of all data so far as 16 bytes, each word with the highest first."""
         cdef uint64_t words[2]
-        wait(<void *>self.lock)
         return digest_of(words, self.answer(words))
 
     def hexdigest(self):
         """hexdigest($self)\n--\n\nReturns the digest in lower-case hexadecimal."""
         cdef uint64_t words[2]
-        wait(<void *>self.lock)
         return hex_of(words, self.answer(words))
 
     def intdigest(self):
         """intdigest($self)\n--\n\nReturns the digest as a whole number: the first word is above the second."""
         cdef uint64_t words[2]
-        wait(<void *>self.lock)
         return int_of(words, self.answer(words))
 
     def copy(self):
@@ -252,7 +248,6 @@ cdef class murmur3_x64_128(_Hasher):
     def digest_bytes(self):
         """digest_bytes($self)\n--\n\nReturns the 16 bytes that most tools print: each word with the lowest first."""
         cdef uint64_t words[2]
-        wait(<void *>self.lock)
         self.answer(words)
         return lowest_first(words)
 

@@ -61,9 +61,7 @@ def add_filters(source, target, columns, *, filesystem=None, error_rate=None, ma
         notes.update(dict.fromkeys(builder.notes + lost))  # each once, also of many files
         return size
 
-    size = sum(in_each_file(add, place_of(source, filesystem), place_of(target, filesystem)))
-    warn(notes)
-    return size
+    return sum_of(add, filesystem, source, target, notes=notes)
 
 
 def remove_filters(source, target, columns=None, *, filesystem=None):
@@ -84,14 +82,15 @@ def remove_filters(source, target, columns=None, *, filesystem=None):
                 notes.update(dict.fromkeys(rewrite(reader, source, target, chosen, ())[1]))
         return count
 
-    count = sum(in_each_file(remove, place_of(source, filesystem), place_of(target, filesystem)))
-    warn(notes)
-    return count
+    return sum_of(remove, filesystem, source, target, notes=notes)
 
 
-def warn(notes):
+def sum_of(call, filesystem, *files, notes):
+    """The sum of a call's results for each file. Then it warns of what the calls have noted."""
+    total = sum(in_each_file(call, *(place_of(file, filesystem) for file in files)))
     for note in notes:
         warnings.warn(note, stacklevel=3)
+    return total
 
 
 def in_each_file(call, source, *target):
@@ -273,9 +272,7 @@ def check_filters(source, *, filesystem=None, progress=None):
                 check_filter(reader.source, column, group, batches)
         return sum(len(groups) for _, groups in todo)
 
-    count = sum(in_each_file(check, place_of(source, filesystem)))
-    warn(notes)
-    return count
+    return sum_of(check, filesystem, source, notes=notes)
 
 
 def check_filter(source, column, group, batches):
