@@ -90,7 +90,6 @@ class Handler:
         self.list = calls.counted("list", base.get_file_info)
         self.open = calls.counted("open", lambda path: calls.file(base.open_input_file(path)))
         self.create = calls.counted("create", lambda path: calls.file(base.open_output_stream(path)))
-
         self.normalize_path = str
 
     def get_file_info_selector(self, selector):

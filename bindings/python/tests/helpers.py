@@ -18,8 +18,8 @@ KINDS = [xxh64, murmur3_x64_128]
 FORMS = ["digest", "hexdigest", "intdigest"]
 ON_COLUMNS = [xxh64_each, murmur3_x64_128_each, BloomFilter(32).add_each, BloomFilter(32).contains_each]
 ONE_CALL = [getattr(sketch_hash, f"{kind.__name__}_{form}") for kind in KINDS for form in FORMS]
-PICKLES = [lambda subject, n=n: pickle.loads(pickle.dumps(subject, n)) for n in range(6)]
-WAYS = [copy.copy, copy.deepcopy, lambda subject: subject.copy(), *PICKLES]
+WAYS = [copy.copy, copy.deepcopy, lambda subject: subject.copy(),
+        *(lambda subject, n=n: pickle.loads(pickle.dumps(subject, n)) for n in range(6))]
 
 MAP_NORESERVE = 0x4000 if sys.platform == "linux" else 0
 

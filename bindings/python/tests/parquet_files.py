@@ -4,7 +4,6 @@ import datetime
 import decimal
 import io
 import pathlib
-import signal
 import subprocess
 import sys
 import time
@@ -135,11 +134,6 @@ def clear_filter(file):
     with open(file, "r+b") as opened:
         opened.seek(place)
         opened.write(bytes(32))
-
-
-def as_in_a_terminal():
-    """Not in a shell's background, where Ctrl-C is ignored."""
-    signal.signal(signal.SIGINT, signal.SIG_DFL)
 
 
 def until(is_so):

@@ -36,9 +36,8 @@ def ticks():
     ticks, is_over, interval = [], threading.Event(), sys.getswitchinterval()
 
     def tick():
-        while not is_over.is_set():
+        while not is_over.wait(0.001):
             ticks.append(1)
-            time.sleep(0.001)
 
     sys.setswitchinterval(1000)
     worker = threading.Thread(target=tick)

@@ -72,8 +72,7 @@ class Producer:
 
     def exported(self, schema, array):
         """An object of one array."""
-        method = lambda _, requested=None: (capsule(schema), capsule(array))
-        return type("Exported", (), {"__arrow_c_array__": method})()
+        return type("Exported", (), {"__arrow_c_array__": lambda _, requested=None: (capsule(schema), capsule(array))})()
 
     def streamed(self, schema, *arrays, error=0, text=None):
         """An object of chunks, with an error after them."""
@@ -443,7 +442,6 @@ def test_a_stream_may_wait_for_a_thread_that_needs_the_gil(need, tmp_path, ticks
     subprocess.run(["gcc", "-shared", "-fPIC", "-o", tmp_path / "slow.so", tmp_path / "slow.c"], check=True)
     slow = ctypes.CDLL(str(tmp_path / "slow.so")).slow
     producer = Producer()
-
     no_text = ctypes.CFUNCTYPE(P, P)(lambda _: None)
 
     def call(_):

@@ -24,7 +24,6 @@ from sketch_hash.parquet.footer import LENGTH, OFFSET
 from sketch_hash.parquet.reader import contain_hashes, false_positive_rate
 
 numpy = pytest.importorskip("numpy")
-pytestmark = pytest.mark.filterwarnings("ignore:the filters of")
 
 
 @pytest.mark.parametrize("name, value", VALUES.items(), ids=VALUES)
@@ -174,11 +173,8 @@ def test_a_list_of_one_column_is_asked_by_its_own_name():
         parquet.may_contain(FILTERS, "struct", 5)
 
 
-class Timestamp(datetime.datetime):
-    nanosecond = 7  # as pandas has it
-
-
 def test_nanoseconds_of_pandas_count():
+    Timestamp = type("Timestamp", (datetime.datetime,), {"nanosecond": 7})  # as pandas has it
     assert parquet.may_contain(FILTERS, "ns", Timestamp(2026, 1, 1, 1, 1, 1, 3)) == []
     assert 0 in parquet.may_contain(FILTERS, "ns", datetime.datetime(2026, 1, 1, 1, 1, 1, 3))
 

@@ -10,13 +10,12 @@ import time
 
 import pytest
 import sketch_hash
-from parquet_files import DATA, FILTERS, ODD, VALUES, as_in_a_terminal, clear_filter, run, until
+from parquet_files import DATA, FILTERS, ODD, VALUES, clear_filter, run, until
 from sketch_hash import parquet
 from sketch_hash.parquet.footer import BYTE_ARRAY
 from sketch_hash.parquet.keys import keys_of, parse
 
 pytest.importorskip("numpy")
-pytestmark = pytest.mark.filterwarnings("ignore:the filters of")
 
 
 def test_nanoseconds_of_a_command_line_count():
@@ -44,8 +43,9 @@ writer.stored_values, files.Source.pieces = lambda *_: (), lambda *_: time.sleep
         shutil.copy(ODD, tmp_path / "files" / name)
     command = [sys.executable, "-m", "sketch_hash.parquet", "add", "-c", "plain", "--jobs", "2", tmp_path / "files"]
     path = os.pathsep.join([str(tmp_path / "code"), *sys.path])
+    in_a_terminal = lambda: signal.signal(signal.SIGINT, signal.SIG_DFL)  # in a shell's background Ctrl-C is ignored
     return subprocess.Popen(command, env={**os.environ, "PYTHONPATH": path}, start_new_session=True,
-                            preexec_fn=as_in_a_terminal, **options), names
+                            preexec_fn=in_a_terminal, **options), names
 
 
 @pytest.mark.parametrize("send, number, status", [

@@ -11,7 +11,6 @@ from sketch_hash.parquet.reader import all_places
 from test_parquet_engines import ALL_TYPES
 
 pytest.importorskip("numpy")
-pytestmark = pytest.mark.filterwarnings("ignore:the filters of")
 
 TIMES = ["'2026-01-01 00:01:10.000'", "timestamp '2026-01-01 00:01:10'", "timestamptz '2026-01-01 00:01:10+00'",
          "timestamptz '2026-01-01 01:01:10+01'", "'2026-01-01 00:01:10'::timestamp_ns", "date '2026-01-01'",

@@ -8,7 +8,6 @@ from sketch_hash import parquet
 from sketch_hash.parquet.pyarrow_values import stored_values
 
 pytest.importorskip("numpy")
-pytestmark = pytest.mark.filterwarnings("ignore:the filters of")
 
 ALL_TYPES = [*TYPES, "date64", "time32('s')", "timestamp('s')", *(f"decimal128({digits}, 2)" for digits in (9, 18, 30))]
 OPTIONS = [

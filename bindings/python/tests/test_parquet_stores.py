@@ -11,7 +11,6 @@ from parquet_files import ODD
 from sketch_hash import parquet, xxh64_hexdigest
 from sketch_hash.parquet import command, files
 
-pytestmark = pytest.mark.filterwarnings("ignore:the filters of")
 FOLDER, PATH, OTHER, OLD = "bucket", "bucket/a.parquet", "bucket/b.parquet", ODD.read_bytes()
 
 

@@ -21,7 +21,7 @@ from sketch_hash.parquet.footer import LENGTH, OFFSET, VALUES as VALUE_COUNT
 from sketch_hash.parquet.pyarrow_values import stored_values
 
 pytest.importorskip("numpy")
-pytestmark = pytest.mark.filterwarnings("ignore:the filters of")
+DECIMAL = 5  # of ConvertedType, and of LogicalType
 
 
 def meanwhile(monkeypatch, act):
@@ -205,9 +205,6 @@ def integer(value):
 
 def logical(number, **fields):
     return TType.STRUCT, {number: (TType.STRUCT, {1: integer(2), 2: integer(fields.get("digits", 30))} if fields else {})}
-
-
-DECIMAL = 5
 
 
 @pytest.mark.parametrize("change, text", [

@@ -379,29 +379,26 @@ cdef class BloomFilter:
 
     cdef int insert_or_find(self, Column keys, unsigned char *found) except -1:
         """Writes to `found` whether the filter may have each key, or inserts the keys if that is NULL."""
-        self.rows(keys, found)
-        while keys.check_signals_if_more():
-            self.rows(keys, found)
-        return 0
-
-    cdef int rows(self, Column keys, unsigned char *found) except -1:
         cdef size_t wrong = 0
         cdef int status
         cdef bint is_long = keys.size() >= LONG
-        self.begin(is_long)
-        if found is NULL and self.bits.readonly:
-            status = READ_ONLY
-        elif found is NULL and keys.overlaps(self.bits.buf, self.bits.len):
-            status = OVERLAP
-        elif is_long:
-            with nogil:
+        while True:
+            self.begin(is_long)
+            if found is NULL and self.bits.readonly:
+                status = READ_ONLY
+            elif found is NULL and keys.overlaps(self.bits.buf, self.bits.len):
+                status = OVERLAP
+            elif is_long:
+                with nogil:
+                    status = insert_or_find(self.bits.buf, self.bits.len, keys, found, &wrong)
+            else:
                 status = insert_or_find(self.bits.buf, self.bits.len, keys, found, &wrong)
-        else:
-            status = insert_or_find(self.bits.buf, self.bits.len, keys, found, &wrong)
-        if is_long:
-            release(self.lock)
-        check_offsets(status, wrong)
-        return self.check(status)
+            if is_long:
+                release(self.lock)
+            check_offsets(status, wrong)
+            self.check(status)
+            if not keys.check_signals_if_more():
+                return 0
 
     cdef object contains(self, Column keys):
         found = bytearray(keys.count)

@@ -151,10 +151,8 @@ cdef char get_numbers(Column column, object numbers, NumberRule rule) except 0:
     refuse_mask(numbers)
     try:
         PyObject_GetBuffer(numbers, &column.numbers, PyBUF_C_CONTIGUOUS | PyBUF_FORMAT)
-    except TypeError:
-        raise TypeError(rule.error_of(numbers)) from None
-    except ValueError:  # numpy has no format for dates
-        if getattr(getattr(numbers, "dtype", None), "kind", None) not in ("M", "m"):
+    except (TypeError, ValueError) as error:  # a ValueError for dates, since numpy has no format for them
+        if isinstance(error, ValueError) and getattr(getattr(numbers, "dtype", None), "kind", None) not in ("M", "m"):
             raise
         raise TypeError(rule.error_of(numbers)) from None
     cdef View *memory = &column.numbers
@@ -240,8 +238,7 @@ cdef object hash_each(Column column, int words, object seed):
                 status = hash_column(column, words, number, out, &wrong)
         check_offsets(status, wrong)
         if not column.check_signals_if_more():
-            break
-    return memoryview(hashes).cast("Q")
+            return memoryview(hashes).cast("Q")
 
 
 def xxh64_each(keys, seed=0):

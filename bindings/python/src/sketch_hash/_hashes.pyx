@@ -75,8 +75,9 @@ cdef class _Hasher:
         """Waits for a long call, writes the words of the hash of all data so far, and returns how many these are."""
         return 0
 
+    @cython.final
     cdef size_t state_size(self) noexcept:
-        return 0
+        return sizeof(self.state.xxh64) if type(self) is xxh64 else sizeof(self.state.murmur)
 
     @cython.final
     cdef inline void consume(self, const View *data, const uint64_t *seed) noexcept nogil:
@@ -158,9 +159,6 @@ cdef class xxh64(_Hasher):
         words[0] = sketch_xxh64_digest(&self.state.xxh64)
         return 1
 
-    cdef size_t state_size(self) noexcept:
-        return sizeof(self.state.xxh64)
-
     def update(self, data):
         """update($self, data, /)\n--\n\nAppends data. Splitting the input into several calls gives the same hash."""
         self.append(data, NULL)
@@ -215,9 +213,6 @@ cdef class murmur3_x64_128(_Hasher):
         wait(<void *>self.lock)
         sketch_murmur3_x64_128_digest(&self.state.murmur, words)
         return 2
-
-    cdef size_t state_size(self) noexcept:
-        return sizeof(self.state.murmur)
 
     def update(self, data):
         """update($self, data, /)\n--\n\nAppends data. Splitting the input into several calls gives the same hash."""

@@ -7,7 +7,6 @@ import numbers
 import operator
 import re
 import struct
-import sys
 import uuid
 
 from .. import column as texts_of
@@ -86,14 +85,11 @@ def column_of(values, kind):
         return texts_of(values)
     if kind.type not in (INT32, INT64) or kind.name not in (None, "integer") or types != {int}:
         return None
-    width = 4 if kind.type == INT32 else 8
-    letter = {4: "i", 8: "q"}[width]
+    width, letter = (4, "i") if kind.type == INT32 else (8, "q")
     try:
         stored = array.array(letter.upper() if kind.is_unsigned else letter, values)
     except OverflowError:
         return None
-    if sys.byteorder == "big":
-        stored.byteswap()
     return stored.tobytes(), array.array("Q", range(0, width * len(values) + 1, width))
 
 
