@@ -1,7 +1,7 @@
 /* sketch_hash.c 3.2.0: printed from proved text. Do not edit it: tools/print_c prints it.
  *
  * crate     sketch_c, and those that it depends on, of which PROVED says more
- * text      d3cd4ebdb6bd048f165e2212d71164d2a1cfbf91895d947612fd412a121b79c7
+ * text      d606bdb55843b25627c6ab1925949a2f291b2bdd7dde266082ec739bb9e0495e
  * prover    rattle-kit-13f logic dac8208d650f15bf
  * licence   Apache-2.0
  */
