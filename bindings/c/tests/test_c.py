@@ -5,16 +5,12 @@ import shutil
 import subprocess
 
 import pytest
-from conftest import CALLS, DIST
+from conftest import CALLS, DIST, output
 
 HERE = pathlib.Path(__file__).resolve().parent
 INCLUDE, TEXT = DIST / "include", DIST / "sketch_hash.c"
 STRICT = ["-Wall", "-Wextra", "-Werror"]
 STD = ["-std=c11", "-Wpedantic", *STRICT]
-
-
-def output(*command):
-    return subprocess.run(command, check=True, stdout=subprocess.PIPE, text=True, timeout=300).stdout
 
 
 @pytest.fixture(scope="session")

@@ -6,7 +6,7 @@ import shutil
 import subprocess
 
 import pytest
-from conftest import CALLS, DIST, VERSION
+from conftest import CALLS, DIST, VERSION, output
 
 MAJOR, MINOR, _ = map(int, VERSION.split("."))
 SHARED = f"libsketch_hash.so.{MAJOR}"
@@ -18,10 +18,6 @@ INSTALLED = {
     "lib/cmake/sketch_hash/sketch_hash-config-version.cmake",
     *(f"share/doc/sketch_hash/{name}" for name in ("LICENSE", "NOTICE", "PROVED", "README.md")),
 }
-
-
-def output(*command, **kwargs):
-    return subprocess.run(command, check=True, stdout=subprocess.PIPE, text=True, **kwargs).stdout
 
 
 def files_in(folder):
