@@ -107,21 +107,6 @@ def test_make_builds_both_libraries_whatever_the_flags_are(flags, make, dist, ne
     assert f"[{SHARED}]" in headers and re.search(r"GNU_STACK .* RW +0", headers)
 
 
-@pytest.mark.parametrize("embedded", ["libsketch_hash.a", "sketch_hash.c"])
-def test_a_shared_library_hides_the_copy_in_it(embedded, make, dist, need, tmp_path):
-    """The archive, whose code can be moved, or the text with the option of dist/README.md. Exported calls could replace those
-    of another version in the same process."""
-    need("nm")
-    option = re.search(r"`(-fvisibility=hidden)`", (DIST / "README.md").read_text())[1]
-    make()
-    (tmp_path / "plugin.c").write_text('#include "sketch_hash.h"\n__attribute__((visibility("default"))) uint64_t plugin(void) '
-                                       '{ return sketch_xxh64("fox", 3, 0); }')
-    command = ["gcc", "-fPIC", "-shared", "-I", DIST / "include", "-o", tmp_path / "plugin.so", tmp_path / "plugin.c"]
-    output(*command, dist / embedded, *([option] if embedded.endswith(".c") else []))
-    exported = output("nm", "-D", "--defined-only", tmp_path / "plugin.so")
-    assert " T plugin" in exported and "sketch_" not in exported
-
-
 # ---- pkg-config, CMake and Meson
 
 def block_of_the_readme(kind):
@@ -180,6 +165,21 @@ def test_pkg_config_finds_the_library(install, need, tmp_path, monkeypatch):
     output("gcc", "-Wall", "-Wextra", "-Werror", "-o", tmp_path / "filter", tmp_path / "filter.c", *flags)
     assert output(tmp_path / "filter") == "certainly not\n"
     assert output("pkg-config", "--static", "--libs-only-l", "sketch_hash").split() == ["-lsketch_hash"]
+
+
+def test_a_shared_library_hides_the_copy_in_it(install, need, tmp_path):
+    """The archive, whose code can be moved, or the text with the option of dist/README.md. Exported calls could replace those
+    of another version in the same process."""
+    need("nm")
+    option = re.search(r"`(-fvisibility=hidden)`", (DIST / "README.md").read_text())[1]
+    install(tmp_path / "prefix")
+    (tmp_path / "plugin.c").write_text('#include "sketch_hash.h"\n__attribute__((visibility("default"))) uint64_t plugin(void) '
+                                       '{ return sketch_xxh64("fox", 3, 0); }')
+    command = ["gcc", "-fPIC", "-shared", "-I", DIST / "include", "-o", tmp_path / "plugin.so", tmp_path / "plugin.c"]
+    for embedded in ([tmp_path / "prefix/lib/libsketch_hash.a"], [DIST / "sketch_hash.c", option]):
+        output(*command, *embedded)
+        exported = output("nm", "-D", "--defined-only", tmp_path / "plugin.so")
+        assert " T plugin" in exported and "sketch_" not in exported
 
 
 @pytest.mark.parametrize("missing", [(), SHARED_FILES], ids=["both", "only static"])
