@@ -1,6 +1,6 @@
 /* The header alone, under each standard of C and C++: it may be included twice, and
  * inside extern "C", and its initializers are constants that equal a reset, also in a
- * class with names of its own. */
+ * class with names of its own. Then the header for programs that use xxHash. */
 #ifdef __cplusplus
 extern "C" {
 #include "sketch_hash.h"
@@ -43,3 +43,11 @@ int main(void) {
 #endif
     return memcmp(&x, &constant_x, sizeof x) || memcmp(&m, &constant_m, sizeof m);
 }
+
+#ifdef __cplusplus
+#pragma GCC diagnostic ignored "-Wold-style-cast" /* xxhash.h is C */
+#endif
+#include <xxhash.h>
+
+XXH64_hash_t fox(void);
+XXH64_hash_t fox(void) { return XXH64("fox", 3, 0); }

@@ -48,8 +48,8 @@ static void fill(unsigned char *bytes, size_t length) {
 /* Every content of a state is safe. Each state is a block, so that valgrind sees accesses outside
  * of it. */
 static void any_state(const unsigned char *bytes, size_t length) {
-    sketch_xxh64_state_t *x = malloc(sizeof *x);
-    sketch_murmur3_x64_128_state_t *m = malloc(sizeof *m);
+    sketch_xxh64_state_t *x = (sketch_xxh64_state_t *)malloc(sizeof *x);
+    sketch_murmur3_x64_128_state_t *m = (sketch_murmur3_x64_128_state_t *)malloc(sizeof *m);
     uint64_t pair[2];
     uint64_t *words[] = {&x->seed,  &x->v1, &x->v2, &x->v3,   &x->v4,
                          &x->total, &m->h1, &m->h2, &m->total};
