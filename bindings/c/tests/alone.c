@@ -1,6 +1,6 @@
 /* The header alone, under each standard of C and C++: it may be included twice, and
  * inside extern "C", and its initializers are constants that equal a reset, also in a
- * class with names of its own. Then the header for programs that use xxHash. */
+ * class with names of its own. The same for the header for programs that use xxHash. */
 #ifdef __cplusplus
 extern "C" {
 #include "sketch_hash.h"
@@ -8,6 +8,14 @@ extern "C" {
 #endif
 #include "sketch_hash.h"
 #include "sketch_hash.h"
+
+#pragma GCC diagnostic push
+#ifdef __cplusplus
+#pragma GCC diagnostic ignored "-Wold-style-cast" /* xxhash.h is C */
+#endif
+#include <xxhash.h>
+#pragma GCC diagnostic pop
+
 #include <string.h>
 #define SEVEN                                                                                      \
     (0x80000000u + 0x80000007u) /* 7 in 32 bits: the initializers must not widen it first */
@@ -26,6 +34,9 @@ struct own {
 };
 #endif
 
+XXH64_hash_t fox(void);
+XXH64_hash_t fox(void) { return XXH64("fox", 3, 0); }
+
 int main(void) {
     sketch_xxh64_state_t x;
     sketch_murmur3_x64_128_state_t m;
@@ -43,11 +54,3 @@ int main(void) {
 #endif
     return memcmp(&x, &constant_x, sizeof x) || memcmp(&m, &constant_m, sizeof m);
 }
-
-#ifdef __cplusplus
-#pragma GCC diagnostic ignored "-Wold-style-cast" /* xxhash.h is C */
-#endif
-#include <xxhash.h>
-
-XXH64_hash_t fox(void);
-XXH64_hash_t fox(void) { return XXH64("fox", 3, 0); }
