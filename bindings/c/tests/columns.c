@@ -28,7 +28,7 @@ static void lay_out(unsigned least, unsigned spread) {
     }
     length = wide[KEYS] + 3;
     keys = realloc(keys, length);
-    for (size_t i = 0; i < length; i++) keys[i] = (unsigned char)random31();
+    fill(keys, length);
 }
 
 /* A number for a call on a column. */
@@ -124,20 +124,18 @@ static void wrong_length(int call, int column, size_t wrong) {
     length_of_bits = BITS;
 }
 
-static void wrong_offset(size_t i, uint64_t offset) {
-    const uint64_t fits = wide[i];
-    wide[i] = offset, narrow[i] = (uint32_t)offset;
-    for (int call = XXH64; call <= CONTAINS; call++)
-        for (int column = OFFSETS32; column <= OFFSETS64; column++)
-            compare(call, column, 0, SKETCH_ERROR_OFFSET, i);
-    wide[i] = fits, narrow[i] = (uint32_t)fits;
+static void wrong_offset(int call, int column, size_t i) {
+    if (column <= OFFSETS64) compare(call, column, 0, SKETCH_ERROR_OFFSET, i);
 }
 
 static void wrong_offsets(void) {
     for (size_t i = 0; i <= KEYS; i++) {
-        wrong_offset(i, length + 1);
-        wrong_offset(i, ~(uint64_t)0);
-        if (i > 0) wrong_offset(i, wide[i - 1] - 1);
+        const uint64_t fits = wide[i], wrong[] = {length + 1, UINT64_MAX, i ? wide[i - 1] - 1 : 0};
+        for (int w = 0; w < (i ? 3 : 2); w++) {
+            wide[i] = wrong[w], narrow[i] = (uint32_t)wrong[w];
+            all_calls(wrong_offset, i);
+        }
+        wide[i] = fits, narrow[i] = (uint32_t)fits;
     }
 }
 
@@ -211,8 +209,7 @@ static void wrong_lengths(void) {
 
 static void merges(void) {
     unsigned char *into = malloc(64), *from = malloc(64);
-    for (int i = 0; i < 64; i++)
-        into[i] = (unsigned char)random31(), from[i] = (unsigned char)random31();
+    fill(into, 64), fill(from, 64);
     unsigned char first = into[0], last = into[63];
     status("a shorter filter", sketch_bloom_merge(into, 64, from, 32), SKETCH_ERROR_LENGTH);
     status("a longer filter", sketch_bloom_merge(into, 32, from, 64), SKETCH_ERROR_LENGTH);

@@ -1,4 +1,4 @@
-/* Comparisons, which are counted and reported if they fail, and random numbers. */
+/* Comparisons, which are counted and reported if they fail, and random numbers and bytes. */
 #include <inttypes.h>
 #include <stdio.h>
 
@@ -31,4 +31,8 @@ static inline uint64_t random31(void) {
 static inline uint64_t random64(void) {
     const uint64_t high = random31(), middle = random31();
     return high << 33 ^ middle << 7 ^ random31();
+}
+
+static inline void fill(unsigned char *bytes, size_t length) {
+    for (size_t i = 0; i < length; i++) bytes[i] = (unsigned char)random31();
 }
