@@ -1,6 +1,6 @@
 /* The header alone, under each standard of C and C++: it may be included twice, and
  * inside extern "C", and its initializers are constants that equal a reset, also in a
- * class with names of its own. The same for the header for programs that use xxHash. */
+ * class with names of its own. The header for programs that use xxHash compiles too. */
 #ifdef __cplusplus
 extern "C" {
 #include "sketch_hash.h"
