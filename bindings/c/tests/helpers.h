@@ -4,15 +4,12 @@
 
 static long checks, faults;
 
+/* Takes statuses too: both sides are converted alike. */
 static inline void same(const char *what, uint64_t result, uint64_t expected) {
     checks++;
     if (result == expected) return;
     faults++;
     fprintf(stderr, "%s: %016" PRIx64 ", and not %016" PRIx64 "\n", what, result, expected);
-}
-
-static inline void status(const char *what, int result, int expected) {
-    same(what, (uint64_t)result, (uint64_t)expected);
 }
 
 /* Returns the status of the program: 0 if something was compared, and all was equal. */
