@@ -1,4 +1,5 @@
 """The library for C: its header under each standard, and its text under compilers, processors and systems."""
+import functools
 import pathlib
 import re
 import shutil
@@ -16,14 +17,12 @@ STD = ["-std=c11", *STRICT]
 @pytest.fixture(scope="session")
 def archive(tmp_path_factory):
     """archive("gcc", "-O2"): the library as this compiler makes it with these options."""
-    made = {}
-
+    @functools.cache
     def archive(*command):
-        if command not in made:
-            made[command] = tmp_path_factory.mktemp("archive") / "sketch_hash.o"
-            language = ["-xc++", "-std=c++11"] if "++" in command[0] else ["-std=c11"]
-            output(*command, *language, *STRICT, "-I", INCLUDE, "-c", TEXT, "-o", made[command])
-        return made[command]
+        made = tmp_path_factory.mktemp("archive") / "sketch_hash.o"
+        language = ["-xc++", "-std=c++11"] if "++" in command[0] else ["-std=c11"]
+        output(*command, *language, *STRICT, "-I", INCLUDE, "-c", TEXT, "-o", made)
+        return made
 
     return archive
 

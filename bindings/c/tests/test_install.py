@@ -197,17 +197,15 @@ def test_cmake_finds_the_library(target, missing, install, cmake_project, tmp_pa
     assert ("libsketch_hash" in output("ldd", tmp_path / "project/b/fox")) == is_shared
 
 
-def test_cmake_takes_a_version_that_can_serve(prefix, need, tmp_path):
+def test_cmake_takes_a_version_that_can_serve(prefix, cmake_project, need):
     """One that is as new as the one that is asked for, with the same first number, or in the range."""
     need("cmake 3.19")
     serves = {f"{MAJOR}.{MINOR}": 1, f"{MAJOR - 1}.0": 0, f"{MAJOR}.{MINOR + 1}": 0, f"{MAJOR + 1}.0": 0,
               f"{MAJOR}.0...{MAJOR}.{MINOR}.99": 1, f"{MAJOR - 1}...{MAJOR + 1}": 1, f"{MAJOR}.0...{VERSION}": 1,
               f"{MAJOR}.0...<{VERSION}": 0, f"{MAJOR - 1}.0...{MAJOR}.0.5": 0, f"{MAJOR}.{MINOR + 1}...{MAJOR + 2}": 0}
-    (tmp_path / "CMakeLists.txt").write_text("\n".join([
-        "cmake_minimum_required(VERSION 3.19)", "project(fox C)", f"foreach(asked {' '.join(serves)})",
-        "find_package(sketch_hash ${asked} QUIET)", 'message(STATUS "${asked} found: ${sketch_hash_FOUND}")', "endforeach()"]))
-    found = output("cmake", "-S", tmp_path, "-B", tmp_path / "b", f"-DCMAKE_PREFIX_PATH={prefix}")
-    assert re.findall(r"(\S+) found: (\d)", found) == [(version, str(is_found)) for version, is_found in serves.items()]
+    find = [f"find_package(sketch_hash {asked} QUIET)\nif(NOT sketch_hash_FOUND EQUAL {found})\n"
+            f'message(SEND_ERROR "{asked}: ${{sketch_hash_FOUND}}")\nendif()' for asked, found in serves.items()]
+    assert cmake_project(find, f"-DCMAKE_PREFIX_PATH={prefix}") == FOX
 
 
 @pytest.mark.parametrize("shared", [None, "ON", "OFF"])
