@@ -100,9 +100,10 @@ def test_make_builds_both_libraries_whatever_the_flags_are(flags, make, dist, ne
     """The shared one has a name, and exports each call with its version, and nothing else."""
     need("nm", "readelf", *(["clang"] if "CC=clang" in flags else []))
     assert make("check", *flags).count(": OK: ") == 2
-    exported = re.findall(r" [B-Zb-z] (?:mine_)?(\S+)$", output("nm", "-D", "--defined-only", dist / SHARED), re.M)
+    exported = re.findall(r" [B-Zb-z] (\S+)$", output("nm", "-D", "--defined-only", dist / SHARED), re.M)
+    namespace = "mine_" if "NAMESPACE=mine_" in " ".join(flags) else ""
     versions = {call: f"SKETCH_HASH_{MAJOR}.{NEW_CALLS.get(call, 0)}" for call in CALLS}
-    assert {*exported} - {*versions.values()} == {f"{call}@@{version}" for call, version in versions.items()}
+    assert {*exported} - {*versions.values()} == {f"{namespace}{call}@@{version}" for call, version in versions.items()}
     headers = output("readelf", "-Wld", dist / SHARED)
     assert f"[{SHARED}]" in headers and re.search(r"GNU_STACK .* RW +0", headers)
 
