@@ -35,9 +35,13 @@ if PLATFORM != "linux-x86_64":  # these run its library or its program
         return f"not run, since they need linux-x86_64: {', '.join(collect_ignore)}"
 
 
+def output(*command, **kwargs):
+    """What a command prints, which must succeed."""
+    return subprocess.run(command, check=True, stdout=subprocess.PIPE, text=True, timeout=300, **kwargs).stdout
+
+
 def version_of(program):
-    output = subprocess.run([program, "--version"], capture_output=True, text=True).stdout
-    return tuple(int(part) for part in re.search(r"\d+(?:\.\d+)*", output)[0].split("."))
+    return tuple(int(part) for part in re.search(r"\d+(?:\.\d+)*", output(program, "--version"))[0].split("."))
 
 
 @functools.cache

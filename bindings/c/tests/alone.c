@@ -1,6 +1,6 @@
 /* The header alone, under each standard of C and C++: it may be included twice, and
  * inside extern "C", and its initializers are constants that equal a reset, also in a
- * class with names of its own. */
+ * class with names of its own. The header for programs that use xxHash compiles too. */
 #ifdef __cplusplus
 extern "C" {
 #include "sketch_hash.h"
@@ -8,6 +8,14 @@ extern "C" {
 #endif
 #include "sketch_hash.h"
 #include "sketch_hash.h"
+
+#pragma GCC diagnostic push
+#ifdef __cplusplus
+#pragma GCC diagnostic ignored "-Wold-style-cast" /* xxhash.h is C */
+#endif
+#include <xxhash.h>
+#pragma GCC diagnostic pop
+
 #include <string.h>
 #define SEVEN                                                                                      \
     (0x80000000u + 0x80000007u) /* 7 in 32 bits: the initializers must not widen it first */
@@ -25,6 +33,9 @@ struct own {
     }
 };
 #endif
+
+XXH64_hash_t fox(void);
+XXH64_hash_t fox(void) { return XXH64("fox", 3, 0); }
 
 int main(void) {
     sketch_xxh64_state_t x;

@@ -1,6 +1,6 @@
-/* The library compared with libxxhash and libmurmurhash, over lengths, seeds and cuts. Each buffer
- * is a block, so that valgrind sees accesses outside of it. With an argument: on inputs longer than
- * 2^32 bytes. */
+/* The library compared with libxxhash and libmurmurhash, over lengths and seeds. Each buffer is a
+ * block, so that valgrind sees accesses outside of it. With an argument: on inputs longer than 2^32
+ * bytes. Inputs in pieces are compared in states.c. */
 #include "sketch_hash.h"
 #include <murmurhash.h>
 #include <stdlib.h>
@@ -25,26 +25,6 @@ static void in_one_call(const unsigned char *bytes, size_t length, uint64_t seed
     }
 }
 
-/* One stream in pieces of `step` bytes, with an empty update after each. */
-static void in_pieces(const unsigned char *bytes, size_t length, uint64_t seed, size_t step) {
-    sketch_xxh64_state_t x;
-    sketch_murmur3_x64_128_state_t m;
-    sketch_xxh64_reset(&x, seed);
-    sketch_murmur3_x64_128_reset(&m, seed);
-    for (size_t at = 0; at < length; at += step) {
-        size_t n = length - at < step ? length - at : step;
-        sketch_xxh64_update(&x, bytes + at, n);
-        sketch_xxh64_update(&x, NULL, 0);
-        sketch_murmur3_x64_128_update(&m, bytes + at, n);
-        sketch_murmur3_x64_128_update(&m, NULL, 0);
-        same("xxh64 so far", sketch_xxh64_digest(&x), XXH64(bytes, at + n, seed));
-        uint64_t whole[2], pair[2];
-        sketch_murmur3_x64_128(bytes, at + n, seed, whole);
-        sketch_murmur3_x64_128_digest(&m, pair);
-        same("murmur so far", memcmp(pair, whole, 16), 0);
-    }
-}
-
 static void short_inputs(void) {
     static const uint64_t seeds[] = {0, 9001, UINT64_MAX};
     for (size_t length = 0; length <= 200; length++)
@@ -52,7 +32,6 @@ static void short_inputs(void) {
             unsigned char *bytes = length ? malloc(length) : NULL;
             for (size_t i = 0; i < length; i++) bytes[i] = (unsigned char)(i * 167 + length);
             in_one_call(bytes, length, seeds[s]);
-            for (size_t step = 1; step <= 70; step += 6) in_pieces(bytes, length, seeds[s], step);
             free(bytes);
         }
 }
@@ -80,18 +59,17 @@ static void inputs_past_32_bits(void) {
     const uint64_t offsets[] = {0, length - 5, length};
     uint64_t out[2];
     size_t wrong = 7;
-    status("a column", sketch_xxh64_each64(zeros, length, offsets, 3, UINT64_MAX, out, 2, &wrong),
-           0);
+    same("a column", sketch_xxh64_each64(zeros, length, offsets, 3, UINT64_MAX, out, 2, &wrong), 0);
     same("its first key", out[0], XXH64(zeros, length - 5, UINT64_MAX));
     same("its second key", out[1], XXH64(zeros, 5, UINT64_MAX));
-    status("bytes that end before 2^32",
-           sketch_xxh64_each64(zeros, 37, offsets, 3, UINT64_MAX, out, 2, &wrong),
-           SKETCH_ERROR_OFFSET);
+    same("bytes that end before 2^32",
+         sketch_xxh64_each64(zeros, 37, offsets, 3, UINT64_MAX, out, 2, &wrong),
+         SKETCH_ERROR_OFFSET);
     same("the wrong offset", wrong, 1);
     unsigned char bits[32] = {0};
     sketch_bloom_insert(bits, 32, zeros, length);
-    status("a long key of a filter", sketch_bloom_contains_hash(bits, 32, XXH64(zeros, length, 0)),
-           1);
+    same("a long key of a filter", sketch_bloom_contains_hash(bits, 32, XXH64(zeros, length, 0)),
+         1);
     free(zeros);
 }
 

@@ -1,38 +1,33 @@
 """The library for C: its header under each standard, and its text under compilers, processors and systems."""
+import functools
 import pathlib
 import re
 import shutil
 import subprocess
 
 import pytest
-from conftest import CALLS, DIST
+from conftest import CALLS, DIST, output
 
 HERE = pathlib.Path(__file__).resolve().parent
-INCLUDE, TEXT = DIST / "include", DIST / "sketch_hash.c"
-STRICT = ["-Wall", "-Wextra", "-Werror"]
-STD = ["-std=c11", "-Wpedantic", *STRICT]
-
-
-def output(*command):
-    return subprocess.run(command, check=True, stdout=subprocess.PIPE, text=True, timeout=300).stdout
+INCLUDE, TEXT, DROP_IN = DIST / "include", DIST / "sketch_hash.c", DIST / "drop_in"
+STRICT = ["-Wall", "-Wextra", "-Werror", "-pedantic-errors"]
+STD = ["-std=c11", *STRICT]
 
 
 @pytest.fixture(scope="session")
 def archive(tmp_path_factory):
     """archive("gcc", "-O2"): the library as this compiler makes it with these options."""
-    made = {}
-
+    @functools.cache
     def archive(*command):
-        if command not in made:
-            made[command] = tmp_path_factory.mktemp("archive") / "sketch_hash.o"
-            language = ["-xc++", "-std=c++11", "-Wpedantic", *STRICT] if "++" in command[0] else STD
-            output(*command, *language, "-I", INCLUDE, "-c", TEXT, "-o", made[command])
-        return made[command]
+        made = tmp_path_factory.mktemp("archive") / "sketch_hash.o"
+        language = ["-xc++", "-std=c++11"] if "++" in command[0] else ["-std=c11"]
+        output(*command, *language, *STRICT, "-I", INCLUDE, "-c", TEXT, "-o", made)
+        return made
 
     return archive
 
 
-# ---- the header
+# ---- the headers
 
 STANDARDS = [
     *((compiler, standard) for compiler in ("gcc", "clang") for standard in ("c90", "c99", "c11", "c17", "c2x")),
@@ -41,12 +36,12 @@ STANDARDS = [
 
 
 @pytest.mark.parametrize("compiler, standard", STANDARDS)
-def test_header_compiles_under_each_standard(compiler, standard, archive, need, tmp_path):
+def test_headers_compile_under_each_standard(compiler, standard, archive, need, tmp_path):
     need(compiler, "gcc")
     language = ["-xc++", "-Wold-style-cast"] if "++" in compiler else ["-xc"]
     if compiler == "g++" and standard != "c++98":
         language.append("-Wuseless-cast")
-    command = [compiler, f"-std={standard}", "-pedantic-errors", *STRICT, "-I", INCLUDE, "-o", tmp_path / "alone"]
+    command = [compiler, f"-std={standard}", *STRICT, "-I", INCLUDE, "-I", DROP_IN, "-o", tmp_path / "alone"]
     output(*command, *language, HERE / "alone.c", "-xnone", archive("gcc", "-O2"))
     output(tmp_path / "alone")
 
@@ -115,9 +110,9 @@ def built(need, archive, tmp_path, request):
 PROGRAMS = ["check", "states", "columns"]
 
 
-@pytest.mark.parametrize("name, args", [*((name, []) for name in [*PROGRAMS, "compare"]), ("compare", ["past 32 bits"])])
-def test_calls_return_what_is_expected(name, args, built):
-    assert output(*built(name), *args)
+@pytest.mark.parametrize("args", [[], ["past 32 bits"]])
+def test_calls_return_what_other_libraries_return(args, built):
+    output(*built("compare"), *args)
 
 
 @pytest.mark.xdist_group("builds")  # wine sets up its folder once
@@ -128,9 +123,10 @@ def test_each_build_gives_the_same_answers(name, build, built):
     assert output(*built(name, build)) == output(*built(name))
 
 
-@pytest.mark.parametrize("compiler", ["gcc", "clang"])
-@pytest.mark.parametrize("name", PROGRAMS)
-def test_a_program_may_include_the_text(compiler, name, built, need, tmp_path):
+@pytest.mark.parametrize("compiler, standard, name", [
+    *((compiler, "c11", name) for compiler in ("gcc", "clang") for name in PROGRAMS),
+    *((compiler, f"c++{year}", "states") for compiler in ("g++", "clang++") for year in ("11", "14", "17", "20", "2b"))])
+def test_a_program_may_include_the_text(compiler, standard, name, built, need, tmp_path):
     """Also in two of its files, of which neither exports a call."""
     need(compiler, "nm")
     source = (DIST if name == "check" else HERE) / f"{name}.c"
@@ -138,49 +134,21 @@ def test_a_program_may_include_the_text(compiler, name, built, need, tmp_path):
     (tmp_path / "one.c").write_text(f'{inlined}#include "{source}"\n')
     other = "uint64_t other(void);\nuint64_t other(void) { return sketch_xxh64_u64(1, 2); }\n"
     (tmp_path / "other.c").write_text(inlined + other)
-    folders = ["-I", INCLUDE, "-I", DIST, "-I", HERE]
-    output(compiler, "-O2", *STD, *folders, "-o", tmp_path / "program", tmp_path / "one.c", tmp_path / "other.c")
+    options = ["-xc++" if "++" in compiler else "-xc", f"-std={standard}", *STRICT, "-O2", "-I", INCLUDE, "-I", DIST]
+    output(compiler, *options, "-I", HERE, "-o", tmp_path / "program", tmp_path / "one.c", tmp_path / "other.c")
     assert output(tmp_path / "program") == output(*built(name))
     assert not re.search(r" T sketch_", output("nm", tmp_path / "program"))
 
 
-TARGETS = ["x86_64-apple-macosx11", "arm64-apple-macosx11", "x86_64-pc-windows-msvc", "aarch64-pc-windows-msvc"]
-
-
-def compiled_for(target, folder):
-    """As far as clang needs no headers of that system."""
-    (folder / "string.h").write_text("#include <stddef.h>\nvoid *memcpy(void *, const void *, size_t), "
-                                     "*memmove(void *, const void *, size_t), *memset(void *, int, size_t);\n")
-    command = ["clang", f"--target={target}", "-ffreestanding", "-nostdlibinc", *STD, "-I", INCLUDE, "-isystem", folder]
-    return subprocess.run([*command, "-c", TEXT, "-o", folder / "out.o"], stderr=subprocess.PIPE, text=True)
-
-
-@pytest.mark.parametrize("target", TARGETS)
+@pytest.mark.parametrize("target", [
+    "x86_64-apple-macosx11", "arm64-apple-macosx11", "x86_64-pc-windows-msvc", "aarch64-pc-windows-msvc"])
 def test_text_compiles_for_other_systems(target, need, tmp_path):
+    """As far as clang needs no headers of that system."""
     need("clang")
-    done = compiled_for(target, tmp_path)
-    assert done.returncode == 0, done.stderr
-
-
-CXX = [(compiler, f"c++{standard}") for compiler in ("g++", "clang++") for standard in ("11", "14", "17", "20", "2b")]
-
-
-@pytest.mark.parametrize("compiler, standard", CXX)
-def test_a_program_of_cxx_may_include_the_text(compiler, standard, need, tmp_path):
-    """It and the text compile without a warning, and it exports no call."""
-    need(compiler, "nm")
-    (tmp_path / "program.cc").write_text("""#define SKETCH_HASH_INLINE
-#include "sketch_hash.c"
-int main() {
-    sketch_xxh64_state_t state = SKETCH_XXH64_INIT(7);
-    sketch_xxh64_update(&state, "fox", 3);
-    return sketch_xxh64_digest(&state) != sketch_xxh64("fox", 3, 7);
-}
-""")
-    options = [f"-std={standard}", "-Wpedantic", *STRICT, "-O2", "-I", INCLUDE, "-I", DIST]
-    output(compiler, *options, "-o", tmp_path / "program", tmp_path / "program.cc")
-    output(tmp_path / "program")
-    assert not re.search(r" T sketch_", output("nm", tmp_path / "program"))
+    (tmp_path / "string.h").write_text("#include <stddef.h>\nvoid *memcpy(void *, const void *, size_t), "
+                                       "*memmove(void *, const void *, size_t), *memset(void *, int, size_t);\n")
+    options = [f"--target={target}", "-ffreestanding", "-nostdlibinc", *STD, "-I", INCLUDE, "-isystem", tmp_path]
+    output("clang", *options, "-c", TEXT, "-o", tmp_path / "out.o")
 
 
 @pytest.mark.parametrize("name, args", [("compare", []), ("columns", []), ("states", ["10000"])])
@@ -204,52 +172,32 @@ def test_text_exports_the_calls_and_takes_only_memory_functions(compiler, archiv
     assert {name for kind, name in names if kind == "U"} <= {"memcpy", "memmove", "memset", "_GLOBAL_OFFSET_TABLE_"}
 
 
-def test_two_copies_of_two_versions_do_not_mix(need, tmp_path):
-    """As two libraries that each embed the text give them to one program: as objects, and in archives."""
+@pytest.mark.parametrize("namespace", [[], ["-DSKETCH_HASH_NAMESPACE=other_"]], ids=["alone", "two"])
+def test_a_copy_with_a_namespace_does_not_mix_with_another(namespace, wrong_copy, need, tmp_path):
+    """The other copy returns wrong hashes. It has a namespace too, or none; it is linked before or after, as an object or in an
+    archive; and a shared library with its calls is loaded first."""
     need("gcc", "ar")
-    shutil.copytree(DIST, tmp_path / "old")
-    for name in ("sketch_hash.c", "include/sketch_hash.h"):
-        path = tmp_path / "old" / name
-        path.write_text(re.sub(r"(return |VERSION )\d{5}", r"\g<1>20900", path.read_text()))
-    parts = []
-    for name, folder in (("old", tmp_path / "old"), ("new", DIST)):
-        (tmp_path / f"{name}.c").write_text(f'#include "sketch_hash.h"\nint {name}(void);\n'
-                                            f"int {name}(void) {{ return sketch_hash_version() == SKETCH_HASH_VERSION; }}\n")
-        options = ["gcc", *STD, f"-DSKETCH_HASH_NAMESPACE={name}_", "-I", folder / "include", "-c"]
-        output(*options, folder / "sketch_hash.c", "-o", tmp_path / f"text_{name}.o")
-        output(*options, tmp_path / f"{name}.c", "-o", tmp_path / f"{name}.o")
-        output("ar", "rc", tmp_path / f"lib{name}.a", tmp_path / f"text_{name}.o", tmp_path / f"{name}.o")
-        parts += [tmp_path / f"lib{name}.a"]
-    (tmp_path / "main.c").write_text("int old(void), new(void);\nint main(void) { return !(old() && new()); }\n")
-    for given in (parts, parts[::-1], [*tmp_path.glob("*.o")]):
-        output("gcc", "-o", tmp_path / "program", tmp_path / "main.c", *given)
+    copies = {"own": (TEXT, INCLUDE, ["-DSKETCH_HASH_NAMESPACE=mine_"]),
+              "other": (wrong_copy / "sketch_hash.c", wrong_copy, namespace)}
+    for name, (text, folder, options) in copies.items():
+        (tmp_path / f"{name}.c").write_text(f'#include "sketch_hash.h"\nuint64_t {name}(void);\n'
+                                            f'uint64_t {name}(void) {{ return sketch_xxh64("fox", 3, 0); }}\n')
+        for source in (text, tmp_path / f"{name}.c"):
+            output("gcc", *STD, *options, "-I", folder, "-c", source, "-o", tmp_path / f"{name}_{source.stem}.o")
+        output("ar", "rc", tmp_path / f"{name}.a", *tmp_path.glob(f"{name}_*.o"))
+    (tmp_path / "main.c").write_text("""#include <stdint.h>
+uint64_t own(void), other(void);
+int main(void) { return own() != 0xbce6c02d5136f238u || other() == own(); }
+""")
+    objects, archives = sorted(tmp_path.glob("*.o")), sorted(tmp_path.glob("*.a"))
+    for linked in (objects, objects[::-1], archives, archives[::-1]):
+        output("gcc", "-rdynamic", "-o", tmp_path / "program", tmp_path / "main.c", *linked)
         output(tmp_path / "program")
-
-
-def test_a_wrong_copy_answers_no_call_of_a_copy_with_a_namespace(wrong_copy, need, tmp_path):
-    """Linked before it, and as a shared library that is loaded first."""
-    need("gcc")
-    (tmp_path / "own.c").write_text("""#include "sketch_hash.h"
-uint64_t other(void);
-int main(void) { return sketch_xxh64("fox", 3, 0) != 0xbce6c02d5136f238u || other() == 0xbce6c02d5136f238u; }
-""")
-    (tmp_path / "other.c").write_text("""#include "sketch_hash.h"
-uint64_t other(void);
-uint64_t other(void) { return sketch_xxh64("fox", 3, 0); }
-""")
-    for name, folder, *option in (("own", INCLUDE, "-DSKETCH_HASH_NAMESPACE=mine_"), ("other", wrong_copy)):
-        text = TEXT if name == "own" else wrong_copy / "sketch_hash.c"
-        for source, to in ((tmp_path / f"{name}.c", f"{name}.o"), (text, f"text_of_{name}.o")):
-            output("gcc", *STD, *option, "-I", folder, "-c", source, "-o", tmp_path / to)
-    objects = [tmp_path / f"{name}.o" for name in ("text_of_other", "other", "own", "text_of_own")]
-    output("gcc", "-rdynamic", "-o", tmp_path / "program", *objects)
-    output(tmp_path / "program")
-    output("env", f"LD_PRELOAD={wrong_copy}/libwrong.so", tmp_path / "program")
+        output("env", f"LD_PRELOAD={wrong_copy}/libwrong.so", tmp_path / "program")
 
 
 # ---- The header for programs that use xxHash
 
-DROP_IN = DIST / "drop_in"
 USES = {"linked": [], "namespace": ["-DXXH_NAMESPACE=mine_"], "inline": ["-DXXH_INLINE_ALL"],
         "inline in a namespace": ["-DXXH_INLINE_ALL", "-DXXH_NAMESPACE=mine_"], "static": ["-DXXH_STATIC_LINKING_ONLY"]}
 
@@ -280,18 +228,6 @@ int main(void) {{ static char at[999]; return (int)({call}) & (int)at[0]; }}""")
     output(*command)
     done = subprocess.run([*command, "-I", DROP_IN, "-I", INCLUDE], stderr=subprocess.PIPE, text=True)
     assert done.returncode and re.search(r"‘?'?XXH(32|3|128)(_is_not_in_sketch_hash|_state_t)'?’? undeclared", done.stderr)
-
-
-@pytest.mark.parametrize("standard", ["c90", "c99", "c11", "c2x", "c++98", "c++11", "c++20"])
-def test_the_header_for_xxhash_compiles_under_each_standard(standard, need, tmp_path):
-    need("gcc", "g++")
-    name = "a.cc" if "++" in standard else "a.c"
-    (tmp_path / name).write_text("""#include <xxhash.h>
-XXH64_hash_t fox(void);
-XXH64_hash_t fox(void) { return XXH64("fox", 3, 0); }
-""")
-    command = ["gcc", f"-std={standard}", "-pedantic-errors", *STRICT, "-c", "-o", tmp_path / "a.o", tmp_path / name]
-    output(*command, "-I", DROP_IN, "-I", INCLUDE)
 
 
 @pytest.mark.parametrize("lines, text", [
