@@ -71,16 +71,17 @@ def x86_forms(has_512):
             yield from (f"{test}; cmov{cc} {one},{item}" for item in (two, at(width)))
     places = "rcx+rdx*4+17", "rcx-5", "rdx*8", "rbx+rsi-0x1000"
     yield from (f"lea {one},[{place}]" for one, *_ in WIDTHS.values() for place in places)
-    # What fills gaps, prefixes, the stack's guard, and jumps to what is in a register or in memory.
+    # What fills gaps, prefixes (0xf2 is bnd, which newer assemblers do not write), the stack's guard, and jumps to what is in a
+    # register or in memory.
     yield from ("nop", ".nops 9", ".byte 0x66,0x90", ".byte 0x66,0x66,0x2e,0x0f,0x1f,0x84,0,0,0,0,0")
     yield from (f"mov rax,fs:0x28; {op} rax,fs:0x28; mov eax,0" for op in ("sub", "xor", "cmp"))
-    yield from (f"call 1f; jmp 2f; 1: {ret}; 2: nop" for ret in ("ret", "repz ret", "bnd ret"))
+    yield from (f"call 1f; jmp 2f; 1: {ret}; 2: nop" for ret in ("ret", "repz ret", ".byte 0xf2; ret"))
     target = "lea rax,[rip+1f]; mov [r15+400],rax"
     yield from (f"{target}; {kind} {place}; not rcx; 1: mov eax,0; mov qword ptr [r15+400],0"
-                for kind in ("jmp", "bnd jmp", "notrack jmp") for place in ("rax", "[r15+400]"))
+                for kind in ("jmp", ".byte 0xf2; jmp", "notrack jmp") for place in ("rax", "[r15+400]"))
     yield from (f"{target}; call {place}; not rcx; 1: pop rax; mov eax,0; mov qword ptr [rsp-8],0; mov qword ptr [r15+400],0"
                 for place in ("rax", "[r15+400]"))
-    yield from ("bnd jmp 1f; not rcx; 1: nop", "push [r15+400]; pop [r15+408]")
+    yield from (".byte 0xf2; jmp 1f; not rcx; 1: nop", "push [r15+400]; pop [r15+408]")
     yield from (f"mov edx,0; or {one},1; div {one}" for one in ("ecx", "rcx", at(32), at(64)))
     yield from (f"and {one},7; shl {two},{item}" for one, two, item in (("ecx", "eax", "cl"), ("ecx", "rax", "cl")))
     yield from (f"pinsr{letter} xmm0,{item},1" for letter, width in zip("bwdq", WIDTHS) for item in (at(width), "eax", "rax"))

@@ -362,7 +362,8 @@ for family, make in FAMILIES.items():
     PLAIN |= {f"{name}{letter}": make(LETTERS[letter]) for letter in letters}
 for one, other in itertools.combinations(LETTERS, 2):
     small, large = LETTERS[one], LETTERS[other]
-    PLAIN[f"pmovzx{one}{other}"] = 1, lambda x, n=small, m=large: lanes(n, lambda lane: extend(lane, m), x)
+    for kind, widened in ("z", extend), ("s", sign_extend):
+        PLAIN[f"pmov{kind}x{one}{other}"] = 1, lambda x, n=small, m=large, by=widened: lanes(n, lambda lane: by(lane, m), x)
 # What can be done for some lanes alone, with the size of a lane.
 MASKED = {f"movdq{kind}{size}": size for kind in "ua" for size in (8, 16, 32, 64)}
 OPERATIONS = {name: plain(function) for name, (_, function) in PLAIN.items()} | CONDITIONAL
