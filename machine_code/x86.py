@@ -43,6 +43,8 @@ def split(op, text):
     while op in PREFIXES:
         prefixes.append(op)
         op, _, text = text.partition(" ")
+    if op == "rep":  # objdump from 2.47 on leaves out the usual segments
+        text = text.replace(" [rdi]", " es:[rdi]").replace(" [rsi]", " ds:[rsi]")
     return prefixes, op, text.strip()
 
 
