@@ -21,7 +21,7 @@ from write import Writer, comment
 CRATES = ("sketch_base", "sketch_hash", "datasketches", "sketch_bloom", "sketch_c")
 # What is evaluated where it is called, since in C it is one operator or call.
 WRITTEN_OUT = re.compile(r"^core::|::fn::|\+Fn|^sketch_hash::hash::(words::(read_|rotate|split_pieces)|copy::copy_array|value::"
-                         r"|columns::U\d+Offset|murmurhash::block_word|xxhash::tail::fold_exactly)|^sketch_bloom::folds::word$")
+                         r"|columns::U\d+Offset|murmurhash::block_word|xxhash::mix_exactly)|^sketch_bloom::folds::word$")
 STORAGE = {"always": "SKH_INLINE", "never": "static SKH_NOINLINE", "": "static"}
 HEADER_TYPES = {own.text: own for own in (INT, SIZE, VOID, NUMBERS[16], NUMBERS[32], NUMBERS[64])}
 DECLARATION = re.compile(r"/\*\*((?:(?!\*/).)*)\*/\nSKETCH_HASH_API ([^;(]+?) ?\b(sketch_\w+)\(([^;]*)\);", re.S)

@@ -185,8 +185,6 @@ pub ruleset for_fold_from_16 = (fold_pair, no_steps)
 
 pub ruleset for_fold_below_16 = (fold_eight, no_steps)
 
-pub ruleset for_fold_exactly = (take_all)
-
 pub ruleset for_fold_words = (fold_eight, take_rest)
 
 pub ruleset for_fold_below_8 = (fold_word, fold_few, take_rest)
@@ -232,6 +230,8 @@ of_short seed bytes h =
     let short = lt-ltb (length bytes) 32 h in
     let all = rest_short 32 bytes h in
     rw (count, short, all) refl
+
+pub ruleset for_mix_exactly = (take_all)
 
 -- a stripe and more start from the lanes
 pub of_long : (seed : ℕ) (bytes : List ℕ) → 32 ≤ length bytes → length bytes < 2 ^ 64 →
