@@ -160,13 +160,13 @@ class Body(Choices):
         flat = [self.pointer(own, leaf) for each in parts for own in each]
         flat = [own for own, is_used in zip(flat, printed.is_used, strict=True) if is_used]
         e = call(printed.name, printed.result, flat, printed.effect)
+        self.prune(frame, s, leaf)
         if printed.effect == CHANGES:
             self.keep(leaf)
         if printed.result == VOID:
             leaf.code.append(Do(e))
             return UNIT
         if printed.effect == CHANGES or printed.result in (forms.PAIR, forms.OPTION, forms.RESULT):
-            self.prune(frame, s, leaf)
             e = self.variable_for(e, frame.name(s.place.local), leaf, True)
         return Parts(tuple(self.part(e, (at,)) for at in (0, 1))) if printed.result == forms.PAIR else e
 

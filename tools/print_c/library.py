@@ -39,7 +39,7 @@ class Printed:
     effect: int
     about: list[str]
     storage: str
-    source: str = ""  # its name there
+    path: str = ""
     requires: str = ""
     head: str = ""
     body: list[Node] = field(default_factory=list)
@@ -122,8 +122,11 @@ class Library:
         about = source.about
         for n in numbers:  # K is its number in this instance
             about = [re.sub(r"\bK\b", str(n), own.replace("2 K", str(2 * n))) for own in about]
+        for own in self.by_name.values():
+            if own.path == path and widths:
+                about = [f"`{own.name}` for offsets of {widths[0]} bits."]
         requires = source.requires if source.inline == "never" else ""
-        printed = Printed(name, title, types, parameters, result, effect, about, STORAGE[source.inline], last, requires)
+        printed = Printed(name, title, types, parameters, result, effect, about, STORAGE[source.inline], path, requires)
         return self.finish(printed, Body(self, path, args, result), [list(map(variable, each)) for each in given])
 
     def parameter(self, type: Type, name: str) -> list[Variable]:
@@ -238,10 +241,10 @@ class Library:
         words = {"None": "skh_none()", "usize::MAX": "UINT64_MAX", "MAX_BYTES": "128 MiB"}
         words |= {own.name: f"`{own.name}`" for own in printed.parameters}
         alike = sorted(self.by_name.values(), key=lambda own: own.name[-2:] == printed.name[-2:])  # of 32 or 64 bits
-        names = {own.source: own.name for own in alike}
 
         def word(found: re.Match[str]) -> str:
-            return words.get(found[1]) or f"`{names.get(found[1].split('::')[-1], found[1])}`"
+            names = [own.name for own in alike if f"::{own.path}".endswith(f"::{found[1]}")]
+            return words.get(found[1]) or f"`{names[-1] if names else found[1]}`"
 
         return re.sub(r"`([\w:]+)`", word, text)
 

@@ -173,7 +173,7 @@ class Writer:
 
     def statement(self, node: Node, result: CType, depth: int) -> Iterator[str]:
         if isinstance(node, Comment):
-            yield from comment([node.text], WIDTH - 4 * depth)
+            yield from ("    " * depth + line for line in comment([node.text], WIDTH - 4 * depth))
         elif isinstance(node, Declare):
             yield self.declaration(node)
         elif isinstance(node, Set):
