@@ -1,6 +1,7 @@
 """Small functions through the printer of C, on three processors: each operation, width and shape; and what it refuses."""
 import importlib
 import itertools
+import re
 import subprocess
 import sys
 
@@ -438,3 +439,11 @@ def test_a_variable_outside_of_its_block_is_refused():
     for nodes in is_declared[1:], is_declared[::-1], [in_an_arm, is_declared[1]]:
         with pytest.raises(P["mir"].Unknown, match="outside of its block: own"):
             P["statement"].must_be_declared(nodes, [])
+
+
+def test_a_comment_names_functions_that_are_there_and_not_its_own():
+    text = (DIST / "sketch_hash.c").read_text()
+    there = set(re.findall(r"\b(skh_\w+)\(", text))
+    abouts = re.findall(r"^/\*((?:(?!\*/).)*)\*/\n[^;{]*?\b(sk\w+_\w+)\(", text, re.M | re.S)
+    named = [(re.findall(r"`(skh_\w+)", about), name) for about, name in abouts]
+    assert len(named) > 100 and all(there.issuperset(names) and name not in names for names, name in named)
