@@ -79,4 +79,5 @@ cdef class Arrow:
     cdef bint has_rows(self) noexcept nogil
     cdef void take_keys(self, Keys *keys, uint64_t *hashes) noexcept nogil
     cdef int hash(self, int words, uint64_t seed, uint64_t *out, size_t *wrong) noexcept nogil
-    cdef int insert_or_find(self, void *bits, size_t length, unsigned char *found, size_t *wrong) noexcept nogil
+    cdef int insert(self, void *bits, size_t length, size_t *wrong) noexcept nogil
+    cdef int contains(self, const void *bits, size_t length, unsigned char *found, size_t *wrong) noexcept nogil

@@ -465,9 +465,26 @@ cdef class Arrow:
             self.work += hash_rows(self.chunk, self.row, &count, 1, 0, hashes)
             keys.content, keys.numbers, keys.items, keys.count = HASHES, hashes, count, count
 
-    cdef int insert_or_find(self, void *bits, size_t length, unsigned char *found, size_t *wrong) noexcept nogil:
-        """Writes to `found` 1 for each key of the next rows that the filter may have, where all bytes are 0 before, or inserts
-        the keys if that is NULL."""
+    cdef int insert(self, void *bits, size_t length, size_t *wrong) noexcept nogil:
+        """Inserts the keys of the next rows, but nulls."""
+        cdef uint64_t hashes[BLOCK]
+        cdef Keys keys
+        cdef size_t i
+        cdef int status = 0
+        self.work = 0
+        while status == 0 and self.has_rows():
+            self.take_keys(&keys, hashes)
+            if self.chunk.has_nulls:
+                keys.items = 0
+                for i in range(keys.count):
+                    hashes[keys.items] = hashes[i]
+                    keys.items += not is_null(self.chunk, self.row + i)
+            status = insert_keys(bits, length, &keys, wrong)
+            self.advance(keys.count)
+        return status
+
+    cdef int contains(self, const void *bits, size_t length, unsigned char *found, size_t *wrong) noexcept nogil:
+        """Writes to `found` 1 for each key of the next rows that the filter may have, where all bytes are 0 before."""
         cdef uint64_t hashes[BLOCK]
         cdef Keys keys
         cdef unsigned char *to
@@ -476,18 +493,10 @@ cdef class Arrow:
         self.work = 0
         while status == 0 and self.has_rows():
             self.take_keys(&keys, hashes)
-            if found is NULL:
-                if self.chunk.has_nulls:
-                    keys.items = 0
-                    for i in range(keys.count):
-                        hashes[keys.items] = hashes[i]
-                        keys.items += not is_null(self.chunk, self.row + i)
-                status = insert_keys(bits, length, &keys, wrong)
-            else:
-                to = found + self.done
-                status = contains_keys(bits, length, &keys, to, wrong)
-                for i in range(keys.count if self.chunk.has_nulls else 0):
-                    to[i] &= not is_null(self.chunk, self.row + i)
+            to = found + self.done
+            status = contains_keys(bits, length, &keys, to, wrong)
+            for i in range(keys.count if self.chunk.has_nulls else 0):
+                to[i] &= not is_null(self.chunk, self.row + i)
             self.advance(keys.count)
         return status
 

@@ -82,13 +82,23 @@ cdef int get_key(object key, View *memory) except -1:
     return 0
 
 
-cdef int insert_or_find(void *bits, size_t length, Column column, unsigned char *found, size_t *wrong) noexcept nogil:
-    """Writes to `found` whether the filter may have each key, or inserts the keys if that is NULL."""
+ctypedef int (*ColumnCall)(const View *, Column, size_t *) noexcept nogil
+
+
+cdef int insert_column(const View *bits, Column column, size_t *wrong) noexcept nogil:
+    if bits.readonly:
+        return READ_ONLY
+    if column.overlaps(bits.buf, bits.len):
+        return OVERLAP
     if column.arrow is not None:
-        return column.arrow.insert_or_find(bits, length, found, wrong)
-    if found is NULL:
-        return insert_keys(bits, length, &column.keys, wrong)
-    return contains_keys(bits, length, &column.keys, found, wrong)
+        return column.arrow.insert(bits.buf, bits.len, wrong)
+    return insert_keys(bits.buf, bits.len, &column.keys, wrong)
+
+
+cdef int contains_column(const View *bits, Column column, size_t *wrong) noexcept nogil:
+    if column.arrow is not None:
+        return column.arrow.contains(bits.buf, bits.len, column.found, wrong)
+    return contains_keys(bits.buf, bits.len, &column.keys, column.found, wrong)
 
 
 cdef int check_length(object length) except -1:
@@ -377,24 +387,19 @@ cdef class BloomFilter:
         for key in keys:
             self.add(key)
 
-    cdef int insert_or_find(self, Column keys, unsigned char *found) except -1:
-        """Writes to `found` whether the filter may have each key, or inserts the keys if that is NULL."""
+    cdef int for_column(self, ColumnCall call, Column keys) except -1:
+        """Calls it until no rows are left."""
         cdef size_t wrong = 0
         cdef int status
         cdef bint is_long = keys.size() >= LONG
         while True:
             self.begin(is_long)
-            if found is NULL and self.bits.readonly:
-                status = READ_ONLY
-            elif found is NULL and keys.overlaps(self.bits.buf, self.bits.len):
-                status = OVERLAP
-            elif is_long:
-                with nogil:
-                    status = insert_or_find(self.bits.buf, self.bits.len, keys, found, &wrong)
-            else:
-                status = insert_or_find(self.bits.buf, self.bits.len, keys, found, &wrong)
             if is_long:
+                with nogil:
+                    status = call(&self.bits, keys, &wrong)
                 release(self.lock)
+            else:
+                status = call(&self.bits, keys, &wrong)
             check_offsets(status, wrong)
             self.check(status)
             if not keys.check_signals_if_more():
@@ -402,7 +407,8 @@ cdef class BloomFilter:
 
     cdef object contains(self, Column keys):
         found = bytearray(keys.count)
-        self.insert_or_find(keys, <unsigned char *>PyByteArray_AS_STRING(found))
+        keys.found = <unsigned char *>PyByteArray_AS_STRING(found)
+        self.for_column(contains_column, keys)
         return memoryview(found).cast("?")
 
     def add_each(self, keys):
@@ -413,7 +419,7 @@ cdef class BloomFilter:
         that width; so ask with numbers of the same width. Or they are an Arrow array or stream, of whose values each
         counts as Parquet stores it; a null is not added. If ValueError is raised, nothing was added.
         """
-        self.insert_or_find(keys_of(keys), NULL)
+        self.for_column(insert_column, keys_of(keys))
 
     def contains_each(self, keys):
         """contains_each($self, keys, /)\n--\n\nReturns whether the filter may have each key of a column, as for
@@ -422,7 +428,7 @@ cdef class BloomFilter:
 
     def add_hashes(self, hashes):
         """add_hashes($self, hashes, /)\n--\n\nAdds the keys with these XXH64 of the seed 0, as of xxh64_each."""
-        self.insert_or_find(hashes_of(hashes), NULL)
+        self.for_column(insert_column, hashes_of(hashes))
 
     def contains_hashes(self, hashes):
         """contains_hashes($self, hashes, /)\n--\n\nReturns whether the filter may have each key with these XXH64 of the

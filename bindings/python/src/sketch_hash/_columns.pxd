@@ -11,10 +11,11 @@ cdef class Column:
     cdef Keys keys  # in these; of Arrow it is not used
     cdef Arrow arrow
     cdef size_t count  # of keys
+    cdef unsigned char *found  # where a look-up writes whether the filter may have each key
 
     cdef Py_ssize_t size(self) noexcept
     cdef bint check_signals_if_more(self) except -1
-    cdef bint overlaps(self, const void *memory, size_t length) noexcept
+    cdef bint overlaps(self, const void *memory, size_t length) noexcept nogil
 
 
 cdef Column keys_of(object keys)

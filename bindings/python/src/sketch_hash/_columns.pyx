@@ -36,7 +36,7 @@ cdef class Column:
         PyErr_CheckSignals()
         return True
 
-    cdef bint overlaps(self, const void *memory, size_t length) noexcept:
+    cdef bint overlaps(self, const void *memory, size_t length) noexcept nogil:
         if self.arrow is not None:
             return self.arrow.overlaps(memory, length)
         return (overlap(self.data.buf, self.data.len, memory, length)
