@@ -1,6 +1,6 @@
-/* The library compared with libxxhash and libmurmurhash, over lengths and seeds. Each buffer is a
- * block, so that valgrind sees accesses outside of it. With an argument: on inputs longer than 2^32
- * bytes. Inputs in pieces are compared in states.c. */
+/* The library compared with libxxhash and libmurmurhash, over lengths, seeds and pieces. Each buffer
+ * is a block, so that valgrind sees accesses outside of it. With an argument: on inputs longer than
+ * 2^32 bytes. */
 #include "sketch_hash.h"
 #include <murmurhash.h>
 #include <stdlib.h>
@@ -8,14 +8,28 @@
 #include <xxhash.h>
 #include "helpers.h"
 
-/* The peer takes seeds of 32 bits. */
-static void in_one_call(const unsigned char *bytes, size_t length, uint64_t seed) {
+/* The peer for Murmur takes seeds of 32 bits. */
+static void compare(const unsigned char *bytes, size_t length, uint64_t seed) {
+    static const size_t steps[] = {1, 15, 16, 17, 31, 32, 33, 64};
+    const uint64_t expected = XXH64(bytes, length, seed);
     uint64_t peer[2], pair[2];
     unsigned char out[16];
-    same("xxh64 in one call", sketch_xxh64(bytes, length, seed), XXH64(bytes, length, seed));
+    same("xxh64 in one call", sketch_xxh64(bytes, length, seed), expected);
     lmmh_x64_128(bytes, (unsigned)length, (uint32_t)seed, peer);
     sketch_murmur3_x64_128(bytes, length, (uint32_t)seed, pair);
     same("murmur in one call", memcmp(pair, peer, 16), 0);
+    for (size_t s = 0; s < sizeof steps / sizeof *steps; s++) {
+        sketch_xxh64_state_t x = SKETCH_XXH64_INIT(seed);
+        sketch_murmur3_x64_128_state_t m = SKETCH_MURMUR3_X64_128_INIT((uint32_t)seed);
+        for (size_t n, at = 0; at < length; at += n) {
+            n = length - at < steps[s] ? length - at : steps[s];
+            sketch_xxh64_update(&x, bytes + at, n);
+            sketch_murmur3_x64_128_update(&m, bytes + at, n);
+        }
+        same("xxh64 in pieces", sketch_xxh64_digest(&x), expected);
+        sketch_murmur3_x64_128_digest(&m, pair);
+        same("murmur in pieces", memcmp(pair, peer, 16), 0);
+    }
     sketch_murmur3_x64_128_bytes(pair, out);
     same("murmur in memory order", memcmp(out, peer, 16), 0);
     if (length == 8) {
@@ -31,7 +45,7 @@ static void short_inputs(void) {
         for (size_t s = 0; s < 3; s++) {
             unsigned char *bytes = length ? malloc(length) : NULL;
             for (size_t i = 0; i < length; i++) bytes[i] = (unsigned char)(i * 167 + length);
-            in_one_call(bytes, length, seeds[s]);
+            compare(bytes, length, seeds[s]);
             free(bytes);
         }
 }
