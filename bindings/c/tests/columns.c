@@ -262,16 +262,15 @@ static void folds(void) {
 }
 
 static void headers(void) {
-    unsigned char *header = malloc(SKETCH_BLOOM_HEADER_MAX), *input = malloc(16);
+    enum { MAX = SKETCH_BLOOM_HEADER_MAX };
+    unsigned char *header = malloc(MAX), *input = malloc(16);
     uint64_t bytes = 77;
-    same("a header's length", sketch_bloom_header_write(1024, header, SKETCH_BLOOM_HEADER_MAX), 16);
+    same("a header's length", sketch_bloom_header_write(1024, header, MAX), 16);
     same("a header", memcmp(header, header_of_1024, 16), 0);
-    same("the longest", sketch_bloom_header_write(1 << 27, header, SKETCH_BLOOM_HEADER_MAX),
-         SKETCH_BLOOM_HEADER_MAX);
+    same("the longest", sketch_bloom_header_write(1 << 27, header, MAX), MAX);
     same("a buffer that is too short", sketch_bloom_header_write(1024, input, 15), 0);
-    same("no filter", sketch_bloom_header_write(1000, header, SKETCH_BLOOM_HEADER_MAX), 0);
-    same("2^31 bytes",
-         sketch_bloom_header_write((uint64_t)1 << 31, header, SKETCH_BLOOM_HEADER_MAX), 0);
+    same("no filter", sketch_bloom_header_write(1000, header, MAX), 0);
+    same("2^31 bytes", sketch_bloom_header_write((uint64_t)1 << 31, header, MAX), 0);
     memcpy(input, header_of_1024, 16);
     for (size_t length = 0; length < 16; length++)
         same("a truncated header", sketch_bloom_header_read(input, length, &bytes), 0);

@@ -8,7 +8,24 @@
 #include <xxhash.h>
 #include "helpers.h"
 
-/* The peer for Murmur takes seeds of 32 bits. */
+/* Compares streams in pieces of `step` bytes. Murmur's seed has 32 bits, as its peer takes it. */
+static void in_pieces(const unsigned char *bytes, size_t length, uint64_t seed, size_t step,
+                      uint64_t xxh64, const uint64_t murmur[2]) {
+    sketch_xxh64_state_t x = SKETCH_XXH64_INIT(seed);
+    sketch_murmur3_x64_128_state_t m = SKETCH_MURMUR3_X64_128_INIT((uint32_t)seed);
+    uint64_t pair[2];
+    for (size_t n, at = 0; at < length; at += n) {
+        n = length - at < step ? length - at : step;
+        sketch_xxh64_update(&x, bytes + at, n);
+        sketch_murmur3_x64_128_update(&m, bytes + at, n);
+    }
+    sketch_murmur3_x64_128_digest(&m, pair);
+    same("xxh64 in pieces", sketch_xxh64_digest(&x), xxh64);
+    same("murmur in pieces", memcmp(pair, murmur, 16), 0);
+    same("xxh64, total", x.total, length);
+    same("murmur, total", m.total, length);
+}
+
 static void compare(const unsigned char *bytes, size_t length, uint64_t seed) {
     static const size_t steps[] = {1, 15, 16, 17, 31, 32, 33, 64};
     const uint64_t expected = XXH64(bytes, length, seed);
@@ -18,18 +35,8 @@ static void compare(const unsigned char *bytes, size_t length, uint64_t seed) {
     lmmh_x64_128(bytes, (unsigned)length, (uint32_t)seed, peer);
     sketch_murmur3_x64_128(bytes, length, (uint32_t)seed, pair);
     same("murmur in one call", memcmp(pair, peer, 16), 0);
-    for (size_t s = 0; s < sizeof steps / sizeof *steps; s++) {
-        sketch_xxh64_state_t x = SKETCH_XXH64_INIT(seed);
-        sketch_murmur3_x64_128_state_t m = SKETCH_MURMUR3_X64_128_INIT((uint32_t)seed);
-        for (size_t n, at = 0; at < length; at += n) {
-            n = length - at < steps[s] ? length - at : steps[s];
-            sketch_xxh64_update(&x, bytes + at, n);
-            sketch_murmur3_x64_128_update(&m, bytes + at, n);
-        }
-        same("xxh64 in pieces", sketch_xxh64_digest(&x), expected);
-        sketch_murmur3_x64_128_digest(&m, pair);
-        same("murmur in pieces", memcmp(pair, peer, 16), 0);
-    }
+    for (size_t s = 0; s < sizeof steps / sizeof *steps; s++)
+        in_pieces(bytes, length, seed, steps[s], expected, peer);
     sketch_murmur3_x64_128_bytes(pair, out);
     same("murmur in memory order", memcmp(out, peer, 16), 0);
     if (length == 8) {
@@ -51,27 +58,15 @@ static void short_inputs(void) {
 }
 
 /* XXH64 compared with libxxhash, Murmur in two updates with one call, a column whose second key
- * begins after 2^32, and a key of a filter. The zeros take no memory, since they are never
- * written. */
+ * begins after 2^32, and a key of a filter. The zeros take no memory: they are never written. */
 static void inputs_past_32_bits(void) {
     size_t length = ((size_t)1 << 32) + 37;
     unsigned char *zeros = calloc(length, 1);
-    sketch_xxh64_state_t x = SKETCH_XXH64_INIT(UINT64_MAX);
-    sketch_murmur3_x64_128_state_t m = SKETCH_MURMUR3_X64_128_INIT(UINT64_MAX);
-    uint64_t expected = XXH64(zeros, length, UINT64_MAX);
+    uint64_t expected = XXH64(zeros, length, UINT64_MAX), out[2];
     same("xxh64 in one call", sketch_xxh64(zeros, length, UINT64_MAX), expected);
-    sketch_xxh64_update(&x, zeros, length);
-    same("xxh64 in one update", sketch_xxh64_digest(&x), expected);
-    same("xxh64, total", x.total, length);
-    uint64_t whole[2], hash[2];
-    sketch_murmur3_x64_128(zeros, length, UINT64_MAX, whole);
-    sketch_murmur3_x64_128_update(&m, zeros, length - 37);
-    sketch_murmur3_x64_128_update(&m, zeros, 37);
-    sketch_murmur3_x64_128_digest(&m, hash);
-    same("murmur", memcmp(hash, whole, sizeof hash), 0);
-    same("murmur, total", m.total, length);
+    sketch_murmur3_x64_128(zeros, length, UINT32_MAX, out);
+    in_pieces(zeros, length, UINT64_MAX, length - 37, expected, out);
     const uint64_t offsets[] = {0, length - 5, length};
-    uint64_t out[2];
     size_t wrong = 7;
     same("a column", sketch_xxh64_each64(zeros, length, offsets, 3, UINT64_MAX, out, 2, &wrong), 0);
     same("its first key", out[0], XXH64(zeros, length - 5, UINT64_MAX));

@@ -28,10 +28,7 @@ static XXH64_hash_t in_pieces(size_t length, size_t step, XXH64_hash_t seed) {
 
 int main(void) {
     XXH64_canonical_t canonical;
-    struct {
-        int before;
-        XXH64_state_t state;
-    } embedded;
+    XXH64_state_t state;
     for (size_t i = 0; i < sizeof bytes; i++) bytes[i] = (unsigned char)(i * i >> 3 ^ i);
     for (size_t length = 0; length < sizeof bytes; length += length < 200 ? 1 : 97) {
         const XXH64_hash_t seed = length % 3 == 0 ? 0 : UINT64_MAX / (length + 1);
@@ -41,9 +38,9 @@ int main(void) {
                (uint64_t)in_pieces(length, 32, seed));
         XXH64_canonicalFromHash(&canonical, hash);
         for (size_t i = 0; i < sizeof canonical; i++) printf("%02x", canonical.digest[i]);
-        XXH64_reset(&embedded.state, seed);
-        XXH64_update(&embedded.state, bytes, length);
-        printf(" %d\n", XXH64_hashFromCanonical(&canonical) == XXH64_digest(&embedded.state));
+        XXH64_reset(&state, seed);
+        XXH64_update(&state, bytes, length);
+        printf(" %d\n", XXH64_hashFromCanonical(&canonical) == XXH64_digest(&state));
     }
     printf("%016" PRIx64 " %d\n", (uint64_t)XXH64(NULL, 0, 7),
            XXH_versionNumber() == XXH_VERSION_NUMBER);

@@ -152,14 +152,11 @@ def test_text_compiles_for_other_systems(target, need, tmp_path):
 
 
 @pytest.mark.parametrize("name, args", [("compare", []), ("columns", []), ("states", ["10000"])])
-def test_calls_access_only_what_they_are_given(name, args, built, need):
+def test_calls_access_only_what_they_are_given_and_run_in_a_stack_of_256_kib(name, args, built, need):
     need("valgrind")
-    output("valgrind", "-q", "--error-exitcode=9", "--leak-check=full", *built(name), *args)
-
-
-@pytest.mark.parametrize("name", ["states", "columns"])
-def test_calls_run_in_a_stack_of_256_kib(name, built):
-    assert output("bash", "-c", 'ulimit -s 256 && exec "$0"', *built(name))
+    program = built(name)
+    output("bash", "-c", 'ulimit -s 256 && exec "$0"', *program)
+    output("valgrind", "-q", "--error-exitcode=9", "--leak-check=full", *program, *args)
 
 
 # ---- names

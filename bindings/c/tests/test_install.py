@@ -51,21 +51,16 @@ def prefix(make, tmp_path):
     ({}, "usr/local", "lib"), ({"PREFIX": "/usr", "LIBDIR": "/usr/lib/triple"}, "usr", "lib/triple"),
 ], ids=["by default", "as Debian"])
 def test_install_and_uninstall_change_only_what_is_below_destdir(folders, place, lib, make, tmp_path):
-    """By variables on the command line or in the environment."""
+    """By variables on the command line or in the environment. Everybody may read what is installed."""
     folders = {"DESTDIR": f"{tmp_path}/a stage", **folders}
     files = {f"{place}/{name}".replace("/lib/", f"/{lib}/", 1) for name in INSTALLED}
     for args, environment in (([f"{name}={value}" for name, value in folders.items()], {}), ([], folders)):
-        make("install", *args, env={**os.environ, **environment})
+        make("install", *args, env={**os.environ, **environment}, umask=0o077)
         assert files_in(tmp_path / "a stage") == files
+        for path in tmp_path.glob("a stage/**/*"):
+            assert path.stat().st_mode & 0o777 == (0o755 if path.is_dir() or ".so" in path.name else 0o644)
         make("uninstall", *args, env={**os.environ, **environment})
         assert files_in(tmp_path / "a stage") == set()
-
-
-def test_installed_files_are_readable(make, tmp_path):
-    prefix = tmp_path / "prefix"
-    make("install", f"PREFIX={prefix}", umask=0o077)
-    assert {(prefix / name).stat().st_mode & 0o777 for name in INSTALLED.difference(SHARED_FILES)} == {0o644}
-    assert {path.stat().st_mode & 0o777 for path in prefix.rglob("*") if path.is_dir()} == {0o755}
 
 
 def test_an_upgrade_replaces_the_library_in_use(prefix, make, tmp_path):
@@ -139,9 +134,10 @@ def cmake_project(need, tmp_path):
 
 
 @pytest.fixture(params=["make", "cmake"])
-def install(request, make, need, tmp_path):
-    """install(prefix): by make or by CMake, each with arguments of its own."""
+def install(request, make, need, tmp_path, monkeypatch):
+    """install(prefix): by make or by CMake, each with arguments of its own. pkg-config finds it there."""
     def install(prefix, make_args=("install",), cmake_args=()):
+        monkeypatch.setenv("PKG_CONFIG_LIBDIR", str(prefix / "lib/pkgconfig"))
         if request.param == "make":
             make(*make_args, f"PREFIX={prefix}")
         else:
@@ -158,7 +154,6 @@ def test_pkg_config_finds_the_library(install, need, tmp_path, monkeypatch):
     prefix = tmp_path / "a|b&c d@prefix@"
     install(prefix)
     assert files_in(prefix) == INSTALLED
-    monkeypatch.setenv("PKG_CONFIG_LIBDIR", str(prefix / "lib/pkgconfig"))
     monkeypatch.setenv("LD_LIBRARY_PATH", str(prefix / "lib"))
     (tmp_path / "filter.c").write_text(block_of_the_readme("c bloom"))
     flags = shlex.split(output("pkg-config", "--cflags", "--libs", "sketch_hash"))
@@ -247,23 +242,20 @@ def test_meson_builds_the_lines_of_the_page(need, tmp_path):
 
 MISREAD = ['quote"', "back`quote", "hash#", "semi;colon"]
 NO_FOLDER = "a file for pkg-config can name no folder with"
+REFUSED_BY_MAKE = [("here", "no absolute path: here"),
+                   *((f"/{name}", NO_FOLDER) for name in (*MISREAD, "$$dollar", "back\\slash"))]
 
 
-@pytest.mark.parametrize("variable", ["PREFIX", "LIBDIR", "INCLUDEDIR"])
-@pytest.mark.parametrize("name, text", [
-    ("here", "no absolute path: here"), *((f"/{name}", NO_FOLDER) for name in (*MISREAD, "$$dollar", "back\\slash"))])
-def test_make_refuses_a_relative_folder_and_one_that_pkg_config_would_misread(variable, name, text, make, tmp_path, capfd):
+@pytest.mark.parametrize("command, text", [
+    *((f"make install DESTDIR=stage/ {variable}={name}", text)
+      for variable in ("PREFIX", "LIBDIR", "INCLUDEDIR") for name, text in REFUSED_BY_MAKE),
+    # of a backslash CMake itself makes a slash
+    *((f"cmake . -DCMAKE_INSTALL_PREFIX=/{name}", NO_FOLDER) for name in (*MISREAD, "$dollar"))])
+def test_a_relative_folder_and_one_that_pkg_config_would_misread_are_refused(command, text, dist, need, capfd):
+    need("make", "cmake", "gcc")
     with pytest.raises(subprocess.CalledProcessError):
-        make("install", f"DESTDIR={tmp_path}/stage/", f"{variable}={name}")
-    assert text in capfd.readouterr().err and not (tmp_path / "stage").exists()
-
-
-@pytest.mark.parametrize("name", [*MISREAD, "$dollar"])  # of a backslash CMake itself makes a slash
-def test_cmake_refuses_a_folder_that_pkg_config_would_misread(name, need, tmp_path, capfd):
-    need("cmake", "gcc")
-    with pytest.raises(subprocess.CalledProcessError):
-        output("cmake", "-S", DIST, "-B", tmp_path, f"-DCMAKE_INSTALL_PREFIX=/{name}")
-    assert NO_FOLDER in " ".join(capfd.readouterr().err.split())
+        output(*command.split(), cwd=dist)
+    assert text in " ".join(capfd.readouterr().err.split()) and not (dist / "stage").exists()
 
 
 def test_the_header_may_be_in_a_folder_of_its_own(install, cmake_project, need, tmp_path, monkeypatch):
@@ -284,7 +276,6 @@ def test_the_header_for_xxhash_is_installed_for_who_asks(install, make, need, tm
     prefix = tmp_path / "prefix"
     install(prefix, ["install-drop-in"], ["-DSKETCH_HASH_DROP_IN=ON"])
     assert files_in(prefix) == INSTALLED | {"include/sketch_hash/xxhash.h", "include/sketch_hash/sketch_hash.c"}
-    monkeypatch.setenv("PKG_CONFIG_LIBDIR", str(prefix / "lib/pkgconfig"))
     monkeypatch.setenv("LD_LIBRARY_PATH", str(prefix / "lib"))
     command = re.search(r"^    flags=.*\n    gcc .*$", (DIST / "README.md").read_text(), re.M)[0]
     program = '#include <stdio.h>\n#include <xxhash.h>\nint main(void) { return XXH64("fox", 3, 0) != 0xbce6c02d5136f238u; }\n'
