@@ -87,15 +87,10 @@ class Blocks {
         const ranges = this.#ranges;
         const after = ranges.findIndex((range) => range.start >= stop);
         const at = after < 0 ? ranges.length : after;
-        const [previous, next] = [ranges[at - 1], ranges[at]];
-        const isBefore = next?.start === stop;
-        if (previous?.stop === start) {
-            previous.stop = isBefore ? next.stop : stop;
-            if (isBefore) ranges.splice(at, 1);
-        } else if (isBefore) {
-            next.start = start;
-        } else {
-            ranges.splice(at, 0, { start, stop });
+        ranges.splice(at, 0, { start, stop });
+        for (const left of [at, at - 1]) {
+            const [one, other] = [ranges[left], ranges[left + 1]];
+            if (one?.stop === other?.start) ranges.splice(left, 2, { start: one.start, stop: other.stop });
         }
     }
 }
