@@ -15,6 +15,18 @@ import pytest
 
 ROOT = pathlib.Path(__file__).parent
 DIST = ROOT / "dist"
+
+
+def blocks_of(page, kind):
+    """The blocks of code in a page that begin with ``` and this."""
+    return re.findall(rf"^```{kind}\n(.*?)^```$", (ROOT / page).read_text(encoding="utf-8"), re.M | re.S)
+
+
+def block_of(page, kind):
+    (block,) = blocks_of(page, kind)
+    return block
+
+
 CALLS = sorted(set(re.findall(r"\b(sketch_\w+)\(", (DIST / "include/sketch_hash.h").read_text())))
 VERSION = re.search(r"^## \[?(\d+\.\d+\.\d+)", (ROOT / "CHANGELOG.md").read_text(encoding="utf-8"), re.M)[1]
 # The folder of what `rt ci` has just proved and built, as .ci/run names it, or None.
@@ -25,7 +37,7 @@ if IS_CI:
     pytest.importorskip = importlib.import_module  # a module that is missing fails
 # The folder of Debian's crates, and the settings by which cargo takes them in place of those of crates.io.
 DEBIAN_CRATES = pathlib.Path("/usr/share/cargo/registry")
-CARGO_CONFIG = re.search(r"^```toml\n(.*?)^```", (ROOT / "bindings/rust/README.md").read_text(), re.M | re.S)[1]
+CARGO_CONFIG = block_of("bindings/rust/README.md", "toml")
 PLATFORM = sysconfig.get_platform()
 if PLATFORM != "linux-x86_64":  # these run its library or its program
     collect_ignore = ["tests/test_crates.py", "tests/test_faults.py", "bindings/c",

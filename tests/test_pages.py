@@ -7,7 +7,7 @@ import subprocess
 import sys
 
 import pytest
-from conftest import CARGO_CONFIG, DEBIAN_CRATES, ROOT
+from conftest import CARGO_CONFIG, DEBIAN_CRATES, ROOT, block_of, blocks_of
 
 FILES = subprocess.check_output(["git", "-C", ROOT, "ls-files"], text=True).splitlines()
 FILES = [name for name in FILES if (ROOT / name).exists()]
@@ -50,7 +50,7 @@ def paragraphs(code):
 BLOCKS = {
     f"{page}, {code.strip().splitlines()[0]}": paragraphs(code)
     for page in PAGES if not page.startswith(("bindings/", "dist/"))
-    for code in re.findall(r"^```rust\n(.*?)^```", text_of(page), re.M | re.S)
+    for code in blocks_of(page, "rust")
 }
 PROVED_CODE = ["\n".join(line.strip() for line in text_of(name).splitlines()) for name in FILES
                if re.match(r"crates/\w+/src/.*\.rt$", name)]
@@ -73,15 +73,6 @@ def test_files_that_a_page_names_are_there(page):
 PAGE, OF_C, OF_PYTHON = (text_of(f"{folder}README.md") for folder in ("", "dist/", "bindings/python/"))
 COPIED = re.findall(r"\]\((dist/\S+\.[ch])\)", PAGE)
 ANSWER = "0b242d361fda71bc\n"  # XXH64 of the fox under seed 0
-
-
-def blocks(page, language):
-    return re.findall(rf"^```{language}\n(.*?)^```$", page, re.M | re.S)
-
-
-def the_block(page, language):
-    (code,) = blocks(page, language)
-    return code
 
 
 def output_of(command, folder, **environment):
@@ -108,7 +99,7 @@ def installed(need, tmp_path):
 
 def test_the_program_in_c_prints_the_hash(need, tmp_path):
     need("gcc")
-    (tmp_path / "fox.c").write_text(the_block(PAGE, "c"))
+    (tmp_path / "fox.c").write_text(block_of("README.md", "c"))
     for name in COPIED:
         shutil.copy(ROOT / name, tmp_path)
     (command,) = re.findall(r"`(cc [^`]+)`", PAGE)
@@ -118,7 +109,7 @@ def test_the_program_in_c_prints_the_hash(need, tmp_path):
 
 @pytest.mark.parametrize("command", re.findall(r"^    (cc .*)$", OF_C, re.M))
 def test_each_command_of_the_page_of_c_builds_it(command, installed, tmp_path):
-    (tmp_path / "fox.c").write_text(the_block(OF_C, "c"))
+    (tmp_path / "fox.c").write_text(block_of("dist/README.md", "c"))
     output_of(command.replace("FOLDER", shlex.quote(str(ROOT / "dist"))), tmp_path, **installed)
     assert output_of("./fox", tmp_path, **installed) == ANSWER
 
@@ -130,7 +121,7 @@ def test_the_program_in_rust_prints_the_hash(need, tmp_path):
     output_of("cargo new --offline --quiet --vcs none --name fox fox", tmp_path)
     add = re.search(r"`(cargo add [^`]+)`", PAGE)[1]
     output_of(add.replace("REPOSITORY", shlex.quote(str(ROOT))).replace("add", "add --offline --quiet", 1), tmp_path / "fox")
-    (tmp_path / "fox/src/main.rs").write_text(the_block(PAGE, "rust crate"))
+    (tmp_path / "fox/src/main.rs").write_text(block_of("README.md", "rust crate"))
     assert output_of("cargo run --offline --quiet", tmp_path / "fox") == ANSWER
 
 
@@ -144,7 +135,7 @@ def test_the_program_in_python_prints_the_hash(need, tmp_path):
     assert len(commands) == 2
     for command in commands:
         output_of(f"unset PYTHONPATH; {command}", copy)
-    (copy / "fox.py").write_text(the_block(PAGE, "python"))
+    (copy / "fox.py").write_text(block_of("README.md", "python"))
     command = re.search(r"`(python fox.py)`", PAGE)[1]
     assert output_of(f"unset PYTHONPATH; ../venv/bin/{command}", copy) == ANSWER
 
@@ -152,7 +143,7 @@ def test_the_program_in_python_prints_the_hash(need, tmp_path):
 def test_the_program_of_the_page_of_python_prints_what_its_comments_say(need, tmp_path):
     """Its blocks are one program, which prints what the comment after each print says."""
     need("python:sketch_hash")
-    code = "".join(blocks(OF_PYTHON, "python"))
+    code = "".join(blocks_of("bindings/python/README.md", "python"))
     (tmp_path / "all.py").write_text(code)
     expected = re.findall(r"^ *print\(.*\)(?:  # ([^;\n]+?)(?:;.*)?)?$", code, re.M)
     printed = output_of(f"{shlex.quote(sys.executable)} all.py", tmp_path).splitlines()
@@ -164,7 +155,7 @@ def test_the_program_in_javascript_prints_the_hash(need, tmp_path):
     need("node 18")
     folder = tmp_path / "a folder, 100%"
     shutil.copytree(ROOT / "dist", folder / "dist")
-    (folder / "fox.mjs").write_text(the_block(PAGE, "js"))
+    (folder / "fox.mjs").write_text(block_of("README.md", "js"))
     assert "`node fox.mjs`" in PAGE and output_of("node fox.mjs", folder) == ANSWER
 
 

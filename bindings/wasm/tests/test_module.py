@@ -5,7 +5,7 @@ import shutil
 import subprocess
 
 import pytest
-from conftest import DIST, ROOT, version_of
+from conftest import DIST, ROOT, block_of, version_of
 
 HERE = pathlib.Path(__file__).resolve().parent
 
@@ -57,7 +57,7 @@ def test_the_package_has_its_notice_and_types_for_older_compilers(need, project)
 
 
 def test_program_of_the_page_prints_what_its_comments_say(project):
-    (program,) = re.findall(r"^```js\n(.*?)^```", (DIST / "wasm/README.md").read_text(), re.M | re.S)
+    program = block_of("dist/wasm/README.md", "js")
     (project / "page.mjs").write_text(program)
     expected = [comment.split(":")[0] for comment in re.findall(r"^console\.log\(.*\); // (.*)$", program, re.M)]
     assert subprocess.check_output(["node", "page.mjs"], cwd=project, text=True).splitlines() == expected

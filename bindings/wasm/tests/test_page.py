@@ -11,7 +11,7 @@ import subprocess
 import threading
 
 import pytest
-from conftest import DIST
+from conftest import DIST, block_of
 
 sketch_hash = pytest.importorskip("sketch_hash")
 pytest.importorskip("selenium")
@@ -360,11 +360,11 @@ def test_a_page_may_import_the_module(chromium, server):
 def test_a_bundle_hashes_the_files_that_a_user_chooses(chromium, need, server_of, tmp_path):
     """By the program, the command and the elements of the package's page."""
     need("esbuild")
-    page = (DIST / "wasm/README.md").read_text()
-    (tmp_path / "upload.js").write_text(re.search(r"^```js upload\n(.*?)^```", page, re.M | re.S)[1])
+    (tmp_path / "upload.js").write_text(block_of("dist/wasm/README.md", "js upload"))
     shutil.copytree(DIST / "wasm", tmp_path / "node_modules/sketch-hash")
-    subprocess.run(re.search(r"^    (esbuild .*)", page, re.M)[1].split(), cwd=tmp_path, check=True, capture_output=True)
-    (tmp_path / "public/index.html").write_text(re.search(r"^```html\n(.*?)^```", page, re.M | re.S)[1])
+    command = re.search(r"^    (esbuild .*)", (DIST / "wasm/README.md").read_text(), re.M)[1]
+    subprocess.run(command.split(), cwd=tmp_path, check=True, capture_output=True)
+    (tmp_path / "public/index.html").write_text(block_of("dist/wasm/README.md", "html"))
     chosen = {"fox": FOX, "long": bytes(9 << 20)}
     chromium.get(server_of(tmp_path / "public"))
     for name, data in chosen.items():
