@@ -1,9 +1,6 @@
 //! MurmurHash3 x64 128.
 
-use crate::calls::{
-    sketch_murmur3_x64_128, sketch_murmur3_x64_128_bytes, sketch_murmur3_x64_128_digest,
-    sketch_murmur3_x64_128_update, sketch_seed_hash, Murmur3X64_128State,
-};
+use crate::calls::*;
 use crate::Error;
 use core::fmt;
 

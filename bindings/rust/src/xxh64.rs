@@ -1,8 +1,6 @@
 //! XXH64.
 
-use crate::calls::{
-    sketch_xxh64, sketch_xxh64_digest, sketch_xxh64_u64, sketch_xxh64_update, Xxh64State,
-};
+use crate::calls::*;
 use core::fmt;
 
 /// Returns XXH64 of `input`.

@@ -14,26 +14,24 @@ fn offsets<O: TryFrom<i32, Error: Debug>>(offsets: &[i32]) -> Vec<O> {
     offsets.iter().map(|offset| O::try_from(*offset).unwrap()).collect()
 }
 
-fn each_key_is_hashed<O: Offset + TryFrom<i32, Error: Debug>>() {
-    let (mut x, mut m) = ([0; 3], [[0; 2]; 3]);
-    xxh64_each(b"foxesdog", &offsets::<O>(&[0, 3, 3, 8]), SEED, &mut x).unwrap();
-    murmur3_x64_128_each(b"foxesdog", &offsets::<O>(&[0, 3, 3, 8]), SEED, &mut m).unwrap();
-    let keys = [&b"fox"[..], b"", b"esdog"];
-    assert_eq!(
-        (x, m),
-        (keys.map(|key| xxh64(key, SEED)), keys.map(|key| murmur3_x64_128(key, SEED)))
-    );
+fn a_column_equals_single_calls<O: Offset + TryFrom<i32, Error: Debug>>() {
+    let (mut x, mut m, mut found) = ([0; 3], [[0; 2]; 3], [true; 3]);
+    let (keys, offsets) = ([&b"a0"[..], b"", b"foxes"], offsets::<O>(&[0, 2, 2, 7]));
+    xxh64_each(b"a0foxes", &offsets, SEED, &mut x).unwrap();
+    murmur3_x64_128_each(b"a0foxes", &offsets, SEED, &mut m).unwrap();
+    filter_of_keys().contains_each(b"a0foxes", &offsets, &mut found).unwrap();
+    assert_eq!(x, keys.map(|key| xxh64(key, SEED)));
+    assert_eq!(m, keys.map(|key| murmur3_x64_128(key, SEED)));
+    assert_eq!(found, [true, false, false]);
+    let (mut column, mut single) = (filter_of_keys(), filter_of_keys());
+    column.insert_each(b"a0foxes", &offsets).unwrap();
+    single.extend(keys);
+    assert_eq!(column, single);
 }
 
-#[test]
-fn each_key_is_hashed_with_offsets_of_each_type() {
-    each_key_is_hashed::<u32>();
-    each_key_is_hashed::<i32>();
-    each_key_is_hashed::<u64>();
-    each_key_is_hashed::<i64>();
-}
-
-fn a_wrong_offset_has_its_index<O: Offset + Debug + TryFrom<i32, Error: Debug>>() {
+fn a_wrong_offset_has_its_index_and_changes_nothing<
+    O: Offset + Debug + TryFrom<i32, Error: Debug>,
+>() {
     let (mut filter, before) = (filter_of_keys(), filter_of_keys());
     for (wrong, index) in [(&[][..], 0), (&[0], 1), (&[0, 3], 2), (&[0, 7, 7], 1), (&[3, 2, 6], 1)]
     {
@@ -50,12 +48,17 @@ fn a_wrong_offset_has_its_index<O: Offset + Debug + TryFrom<i32, Error: Debug>>(
     }
 }
 
+fn offsets_are_of_a_type<O: Offset + Debug + TryFrom<i32, Error: Debug>>() {
+    a_column_equals_single_calls::<O>();
+    a_wrong_offset_has_its_index_and_changes_nothing::<O>();
+}
+
 #[test]
-fn a_wrong_offset_of_each_type_has_its_index_and_changes_nothing() {
-    a_wrong_offset_has_its_index::<u32>();
-    a_wrong_offset_has_its_index::<i32>();
-    a_wrong_offset_has_its_index::<u64>();
-    a_wrong_offset_has_its_index::<i64>();
+fn offsets_are_of_each_type() {
+    offsets_are_of_a_type::<u32>();
+    offsets_are_of_a_type::<i32>();
+    offsets_are_of_a_type::<u64>();
+    offsets_are_of_a_type::<i64>();
 }
 
 #[cfg(target_pointer_width = "64")]
@@ -160,17 +163,6 @@ fn the_bytes_may_be_borrowed_boxed_or_shared() {
     let of_another_thread = shared.clone();
     assert!(thread::spawn(move || of_another_thread.contains(b"a0")).join().unwrap());
     assert_eq!(shared.as_bytes(), OF_ARROW);
-}
-
-#[test]
-fn a_column_of_keys_equals_single_calls() {
-    let mut filter = BloomFilter::with_len(1024).unwrap();
-    let ends: Vec<i64> = (0..=10).map(|n| 2 * n).collect();
-    filter.insert_each(keys().concat().as_bytes(), &ends).unwrap();
-    assert_eq!(filter, filter_of_keys());
-    let mut found = [true; 3];
-    filter.contains_each(b"a0foxa9", &[0_u32, 2, 5, 7], &mut found).unwrap();
-    assert_eq!(found, [true, false, true]);
 }
 
 fn is_its_plain_bytes<N: Number>(number: N, bytes: &[u8], other: N) {
