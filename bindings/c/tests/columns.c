@@ -34,36 +34,33 @@ static void lay_out(unsigned least, unsigned spread) {
 /* A number for a call on a column. */
 #define CALL(call, column) (10 * (call) + (column))
 
+/* The cases of offsets or numbers of a width. */
+#define CASES(width, offsets, numbers)                                                             \
+    case CALL(XXH64, OFFSETS##width):                                                              \
+        return sketch_xxh64_each##width(keys, n, offsets, given, seed, words, KEYS, wrong);        \
+    case CALL(MURMUR, OFFSETS##width):                                                             \
+        return sketch_murmur3_x64_128_each##width(keys, n, offsets, given, seed, pairs, KEYS,      \
+                                                  wrong);                                          \
+    case CALL(INSERT, OFFSETS##width):                                                             \
+        return sketch_bloom_insert_each##width(in, size, keys, n, offsets, given, wrong);          \
+    case CALL(CONTAINS, OFFSETS##width):                                                           \
+        return sketch_bloom_contains_each##width(in, size, keys, n, offsets, given, out, KEYS,     \
+                                                 wrong);                                           \
+    case CALL(INSERT, NUMBERS##width):                                                             \
+        return sketch_bloom_insert_each_u##width(in, size, numbers, given);                        \
+    case CALL(CONTAINS, NUMBERS##width):                                                           \
+        return sketch_bloom_contains_each_u##width(in, size, numbers, given, out, KEYS);
+
 /* The call, with a column whose last `missing` offsets or numbers are not given. */
 static int each(int call, int column, size_t missing, size_t *wrong) {
     unsigned char *in = bits;
     const size_t size = length_of_bits, n = length, given = KEYS + (column <= OFFSETS64) - missing;
     uint64_t *words = (uint64_t *)out, (*pairs)[2] = (void *)out;
     switch (CALL(call, column)) {
-    case CALL(XXH64, OFFSETS32):
-        return sketch_xxh64_each32(keys, n, narrow, given, seed, words, KEYS, wrong);
-    case CALL(XXH64, OFFSETS64):
-        return sketch_xxh64_each64(keys, n, wide, given, seed, words, KEYS, wrong);
+        CASES(32, narrow, narrow)
+        CASES(64, wide, numbers)
     case CALL(XXH64, NUMBERS64): return sketch_xxh64_each_u64(numbers, given, seed, words, KEYS);
-    case CALL(MURMUR, OFFSETS32):
-        return sketch_murmur3_x64_128_each32(keys, n, narrow, given, seed, pairs, KEYS, wrong);
-    case CALL(MURMUR, OFFSETS64):
-        return sketch_murmur3_x64_128_each64(keys, n, wide, given, seed, pairs, KEYS, wrong);
-    case CALL(INSERT, OFFSETS32):
-        return sketch_bloom_insert_each32(in, size, keys, n, narrow, given, wrong);
-    case CALL(INSERT, OFFSETS64):
-        return sketch_bloom_insert_each64(in, size, keys, n, wide, given, wrong);
-    case CALL(INSERT, NUMBERS32): return sketch_bloom_insert_each_u32(in, size, narrow, given);
-    case CALL(INSERT, NUMBERS64): return sketch_bloom_insert_each_u64(in, size, numbers, given);
     case CALL(INSERT, HASHES): return sketch_bloom_insert_each_hash(in, size, numbers, given);
-    case CALL(CONTAINS, OFFSETS32):
-        return sketch_bloom_contains_each32(in, size, keys, n, narrow, given, out, KEYS, wrong);
-    case CALL(CONTAINS, OFFSETS64):
-        return sketch_bloom_contains_each64(in, size, keys, n, wide, given, out, KEYS, wrong);
-    case CALL(CONTAINS, NUMBERS32):
-        return sketch_bloom_contains_each_u32(in, size, narrow, given, out, KEYS);
-    case CALL(CONTAINS, NUMBERS64):
-        return sketch_bloom_contains_each_u64(in, size, numbers, given, out, KEYS);
     default: /* CALL(CONTAINS, HASHES) */
         return sketch_bloom_contains_each_hash(in, size, numbers, given, out, KEYS);
     }
@@ -191,15 +188,13 @@ static void sizes(void) {
 static void wrong_lengths(void) {
     for (size_t length = 0; length < 64; length++) {
         unsigned char *block = calloc(1, length ? length : 1);
-        int expected = length == 32 ? SKETCH_OK : SKETCH_ERROR_LENGTH;
+        const int is_wrong = length != 32, expected = is_wrong ? SKETCH_ERROR_LENGTH : SKETCH_OK;
         same("the check", sketch_bloom_check(length), expected);
-        same("a key of an empty filter", sketch_bloom_contains(block, length, "fox", 3),
-             length != 32);
-        same("a hash of an empty filter", sketch_bloom_contains_hash(block, length, 7),
-             length != 32);
+        same("a key of an empty filter", sketch_bloom_contains(block, length, "fox", 3), is_wrong);
+        same("a hash of an empty filter", sketch_bloom_contains_hash(block, length, 7), is_wrong);
         same("an insert", sketch_bloom_insert(block, length, "fox", 3), expected);
         same("an insert of a hash", sketch_bloom_insert_hash(block, length, 7), expected);
-        for (size_t i = 0; i < length; i++) same("nothing is written", length != 32 && block[i], 0);
+        for (size_t i = 0; i < length; i++) same("nothing is written", is_wrong && block[i], 0);
         free(block);
     }
     same("no bits", sketch_bloom_insert(NULL, 0, NULL, 0), SKETCH_ERROR_LENGTH);

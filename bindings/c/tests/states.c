@@ -1,6 +1,6 @@
-/* States: the header fits the library; random streams in random cuts have the digests of one call;
- * and they and random states give the same results in each build of the library, whose sum is
- * printed. Each state and each input is a block, so that valgrind sees accesses outside of it. */
+/* States: random streams in random cuts have the digests of one call, and they and random states
+ * give the same results in each build of the library, whose sum is printed. Each state and each
+ * input is a block, so that valgrind sees accesses outside of it. */
 #include "helpers.h"
 #include "sketch_hash.h"
 #include <stdlib.h>
@@ -65,7 +65,6 @@ static void any_state(const unsigned char *bytes, size_t length) {
 
 int main(int count, char **args) {
     int rounds = count > 1 ? atoi(args[1]) : 100000;
-    same("the version", sketch_hash_version(), SKETCH_HASH_VERSION);
     for (int round = 0; round < rounds; round++) {
         size_t length = random31() % (round % 8 ? 100 : 1024);
         unsigned char *bytes = (unsigned char *)malloc(length);
