@@ -10,7 +10,7 @@ from libc.string cimport memcpy
 from ._columns cimport Column, check_offsets, hashes_of, keys_of
 from ._common cimport (
     LONG, Lock, PyBuffer_Release, PyObject_GetBuffer, View, acquire, get_bytes, overlap, refuse_addresses, release, wait,
-    word_of,
+    word_of, xxh64_of_memory,
 )
 from ._keys cimport contains_keys, insert_keys
 from ._library cimport *
@@ -34,7 +34,6 @@ cdef double DEFAULT_RATE = 0.01  # that of add_filters is in parquet/writer.py
 cdef inline uint64_t hash_of(object key) except? -1:
     """XXH64 of a key. The filter takes the hash, so a key may be in the filter's own memory."""
     cdef View memory
-    cdef uint64_t hash
     if isinstance(key, str):
         memory.obj = NULL  # the str keeps its UTF-8
         memory.buf = <void *>PyUnicode_AsUTF8AndSize(key, &memory.len)
@@ -42,13 +41,7 @@ cdef inline uint64_t hash_of(object key) except? -1:
         get_bytes(key, &memory)
     else:
         get_key(key, &memory)
-    if memory.len < LONG:
-        hash = sketch_xxh64(memory.buf, memory.len, 0)
-    else:
-        with nogil:
-            hash = sketch_xxh64(memory.buf, memory.len, 0)
-    PyBuffer_Release(&memory)
-    return hash
+    return xxh64_of_memory(&memory, 0)
 
 
 cdef type bytes_like = bytearray  # the type of the last key that was bytes: to look again takes a fifth of a call

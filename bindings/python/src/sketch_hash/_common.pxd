@@ -1,10 +1,12 @@
-"""Arguments of calls, and locks of objects that threads share."""
+"""Arguments of calls, their XXH64, and locks of objects that threads share."""
 from cpython.bytes cimport PyBytes_AS_STRING, PyBytes_Check, PyBytes_GET_SIZE
 from cpython.object cimport PyObject
 from cpython.pythread cimport (
     NOWAIT_LOCK, WAIT_LOCK, PyThread_acquire_lock, PyThread_release_lock, PyThread_type_lock,
 )
 from libc.stdint cimport uint64_t, uintptr_t
+
+from ._library cimport sketch_xxh64
 
 cdef extern from "Python.h":
     # Cython counts no references of a struct with this name, so obj may be NULL.
@@ -76,3 +78,15 @@ cdef inline void wait(void *lock) noexcept:
         with nogil:
             PyThread_acquire_lock((<Lock>lock).handle, WAIT_LOCK)
         PyThread_release_lock((<Lock>lock).handle)
+
+
+cdef inline uint64_t xxh64_of_memory(View *memory, uint64_t seed) noexcept:
+    """Hashes it, if it is long without the GIL, and releases it."""
+    cdef uint64_t hash
+    if memory.len < LONG:
+        hash = sketch_xxh64(memory.buf, memory.len, seed)
+    else:
+        with nogil:
+            hash = sketch_xxh64(memory.buf, memory.len, seed)
+    PyBuffer_Release(memory)
+    return hash

@@ -4,7 +4,7 @@ from cpython.bytes cimport PyBytes_AS_STRING, PyBytes_FromStringAndSize
 from libc.stdint cimport uint16_t, uint32_t, uint64_t
 from libc.string cimport memcpy
 
-from ._common cimport LONG, Lock, PyBuffer_Release, View, acquire, get_bytes, release, wait, word_of
+from ._common cimport LONG, Lock, PyBuffer_Release, View, acquire, get_bytes, release, wait, word_of, xxh64_of_memory
 from ._library cimport *
 
 cdef extern from "Python.h":
@@ -255,15 +255,9 @@ cdef object lowest_first(const uint64_t *hash):
 
 cdef inline uint64_t xxh64_of(object data, object seed) except? -1:
     cdef View memory
-    cdef uint64_t number = word_of(seed, "a seed"), word
+    cdef uint64_t number = word_of(seed, "a seed")
     get_bytes(data, &memory)
-    if memory.len < LONG:
-        word = sketch_xxh64(memory.buf, memory.len, number)
-    else:
-        with nogil:
-            word = sketch_xxh64(memory.buf, memory.len, number)
-    PyBuffer_Release(&memory)
-    return word
+    return xxh64_of_memory(&memory, number)
 
 
 cdef inline int murmur_of(object data, object seed, uint64_t *hash) except -1:
