@@ -466,12 +466,11 @@ cdef class Arrow:
             keys.content, keys.numbers, keys.items, keys.count = HASHES, hashes, count, count
 
     cdef int insert(self, void *bits, size_t length, size_t *wrong) noexcept nogil:
-        """Inserts the keys of the next rows, but nulls."""
+        """Inserts the keys of the next rows, without nulls."""
         cdef uint64_t hashes[BLOCK]
         cdef Keys keys
         cdef size_t i
         cdef int status = 0
-        self.work = 0
         while status == 0 and self.has_rows():
             self.take_keys(&keys, hashes)
             if self.chunk.has_nulls:
@@ -490,7 +489,6 @@ cdef class Arrow:
         cdef unsigned char *to
         cdef size_t i
         cdef int status = 0
-        self.work = 0
         while status == 0 and self.has_rows():
             self.take_keys(&keys, hashes)
             to = found + self.done
@@ -507,7 +505,6 @@ cdef class Arrow:
         cdef uint64_t *to
         cdef size_t count
         cdef int status = 0
-        self.work = 0
         while status == 0 and self.has_rows():
             content, to = self.chunk.content, out + words * self.done
             count = self.chunk.rows.length - self.row

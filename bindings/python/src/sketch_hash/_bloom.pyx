@@ -75,7 +75,7 @@ cdef int get_key(object key, View *memory) except -1:
     return 0
 
 
-ctypedef int (*ColumnCall)(const View *, Column, size_t *) noexcept nogil
+ctypedef int (*ColumnCall)(const View *bits, Column column, size_t *wrong) noexcept nogil
 
 
 cdef int insert_column(const View *bits, Column column, size_t *wrong) noexcept nogil:
@@ -372,7 +372,7 @@ cdef class BloomFilter:
             self.add(key)
 
     cdef int for_column(self, ColumnCall call, Column keys) except -1:
-        """Calls it until no rows are left."""
+        """Makes a call on a column, and again while rows are left."""
         cdef size_t wrong = 0
         cdef int status
         cdef bint is_long = keys.size() >= LONG

@@ -34,6 +34,7 @@ cdef class Column:
         if self.arrow is None or self.arrow.chunk is NULL:
             return False
         PyErr_CheckSignals()
+        self.arrow.work = 0
         return True
 
     cdef bint overlaps(self, const void *memory, size_t length) noexcept nogil:

@@ -81,7 +81,7 @@ cdef inline void wait(void *lock) noexcept:
 
 
 cdef inline uint64_t xxh64_of_memory(View *memory, uint64_t seed) noexcept:
-    """Hashes it, if it is long without the GIL, and releases it."""
+    """Hashes a buffer, without the GIL if it is long, and releases it."""
     cdef uint64_t hash
     if memory.len < LONG:
         hash = sketch_xxh64(memory.buf, memory.len, seed)
