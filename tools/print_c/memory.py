@@ -10,7 +10,7 @@ from frames import Frame
 from mir import BYTE, WORD, Given, Place, Statement, Type, Unknown
 from statement import Declare, Do, Set
 from values import (Bytes, Choice, InMemory, Key, Leaf, Parts, Path, Spelled, ToLocal, Undefined, Value, changed,
-                    expression_of, is_free, is_step, leaves, parts_of, weight)
+                    expression_of, is_free, leaves, parts_of, weight)
 
 if TYPE_CHECKING:
     from library import Library
@@ -329,7 +329,7 @@ class Memory:
         may_be_inside = reads < 2 and (is_slice or not is_named or type.word == "Ref" or frame is not self.frames[0])
 
         def settle(e: Expression) -> Expression:
-            if weight(e) <= most or may_be_inside or is_step(e):
+            if weight(e) <= most or may_be_inside:
                 return e
             return self.variable_for(e, names[is_slice and e.type.bits > 0], leaf, is_named)
 

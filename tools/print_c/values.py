@@ -134,12 +134,6 @@ def weight(e: Expression) -> int:
     return sum(weight(arg) for arg in e.args if isinstance(arg, Expression)) + (e.word != "cast")
 
 
-def is_step(e: Expression) -> bool:
-    """A variable and a constant number after or before it."""
-    is_one = e.word in ("at", "+", "-") or e.word == "cast" and e.type.bits > 0
-    return is_one and e.args[0].word == "variable" and all(arg.word == "number" for arg in e.args[1:])
-
-
 def is_free(e: Expression, used: set[Variable]) -> bool:
     """Whether it is a variable that may be set, since nothing else that is used has its value."""
     return e.word == "variable" and not e.args[0].is_in_memory and e.args[0] not in used

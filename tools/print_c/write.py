@@ -36,8 +36,6 @@ class Writer:
     def number(self, value: int, bits: int) -> str:
         if value in self.constants:
             return self.constants[value]
-        if bits == 64 and value == 2 ** 64 - 1:
-            return "UINT64_MAX"
         if bits == 64 and value >= 2 ** 31 and value & (value - 1) == 0:
             return f"(uint64_t)1 << {value.bit_length() - 1}"
         return str(value) if value < 1000000 else f"0x{value:x}u"
