@@ -220,16 +220,17 @@ ASSEMBLERS = {"x86-64": "as", "aarch64": "aarch64-linux-gnu-as", "packed": "as"}
 LINKERS = {"x86-64": ["ld", "-z", "notext"], "packed": ["ld", "-z", "pack-relative-relocs"],
            "aarch64": ["aarch64-linux-gnu-ld"]}
 VERSION = f"mov eax, {calls.VERSION}; ret"
-ARM = f"mov w0, #{calls.VERSION & 0xFFFF}; movk w0, #{calls.VERSION >> 16}, lsl #16; ret"
+RETURNS = {"x86-64": VERSION, "packed": VERSION,
+           "aarch64": f"mov w0, #{calls.VERSION & 0xFFFF}; movk w0, #{calls.VERSION >> 16}, lsl #16; ret"}
 
 
 @pytest.fixture
 def machine_of(need, tmp_path):
-    """Of a library whose sketch_hash_version is some code."""
-    def run(processor, code):
+    """Of a library whose sketch_hash_version is some code before a right return. It may have other functions."""
+    def run(processor, code="", others=""):
         need(ASSEMBLERS[processor])
         syntax = "" if processor == "aarch64" else ".intel_syntax noprefix\n"
-        text = f"{syntax}.globl sketch_hash_version\nsketch_hash_version:\n{code}\n"
+        text = f"{syntax}.globl sketch_hash_version\nsketch_hash_version:\n{code}\n{RETURNS[processor]}\n{others}\n"
         subprocess.run([ASSEMBLERS[processor], "-o", tmp_path / "code.o", "-"], input=text, text=True, check=True)
         (tmp_path / "versions").write_text("V1 { global: sketch_hash_version; }; V2 { };")
         options = ["--version-script", tmp_path / "versions"] if ".symver" in code else []
@@ -240,200 +241,184 @@ def machine_of(need, tmp_path):
     return run
 
 
+def check_version(machine):
+    calls.check_call(machine, "hash_version", calls.Call, [], [], number(calls.VERSION, 32))
+
+
 # An unknown bit, by a table of all.
 BITS = [1 << i for i in range(32)]
 LOOKED_UP = f"lea rcx, [rip+1f]; mov eax, edi; shr eax, 27; mov eax, [rcx+rax*4]; {VERSION}; 1: .long "
+TABLE = LOOKED_UP + ", ".join(map(str, BITS))
 
-RELRO = '.section .data.rel.ro, "aw";'
+POINTERS = '.section .data.rel.ro, "aw"; 2: .quad 1f, 1f, 1f; .text; jmp [rip+2b+16]; 1:'
+CONSTRUCTOR = '.section .init_array, "aw"; .quad'
 OTHER = f"cmp eax, ecx; jne 1f; {VERSION}; 1: mov eax, 1; ret"  # a wrong result, unless they are equal
+IF_0 = "cbz x3, 1f; udf #0; 1:"
 GUARD = "adrp x1, :got:__stack_chk_guard; ldr x1, [x1, :got_lo12:__stack_chk_guard]"
 COPY = "sub rsp, 40; mov [rsp+16], rdi; mov rdi, rsp; lea rsi, [rsp+16]; mov edx, 8; call memcpy@PLT; add rsp, 40"
-FLAG = (f"cmp byte ptr [rip+flag], 1; jne 1f; 1: {VERSION}; .section .init_array, \"aw\"; .quad set; "
-        ".bss; flag: .byte 0; .text; set:")
-DETECT = ("push rbx; xor eax, eax; cpuid; cmp eax, 7; jb 9f; mov eax, 1; cpuid; bt ecx, 27; jnc 9f; xor ecx, ecx; xgetbv; "
-          "and eax, 6; cmp eax, 6; jne 9f; mov eax, 7; xor ecx, ecx; cpuid; shr ebx, 5; and ebx, 1; mov [rip+flag], bl; "
+FLAG = f"cmp byte ptr [rip+flag], 1; jne 1f; 1: {VERSION}; {CONSTRUCTOR} set; .bss; flag: .byte 0; .text; set:"
+DETECT = (f"{FLAG} push rbx; xor eax, eax; cpuid; cmp eax, 7; jb 9f; mov eax, 1; cpuid; bt ecx, 27; jnc 9f; xor ecx, ecx; "
+          "xgetbv; and eax, 6; cmp eax, 6; jne 9f; mov eax, 7; xor ecx, ecx; cpuid; shr ebx, 5; and ebx, 1; mov [rip+flag], bl; "
           "9: pop rbx; ret")
 
-RIGHT = [
-    ("x86-64", "".join(f"not r{name}; " for name in "ax cx dx si di 8 9 10 11".split()) + VERSION),
-    ("x86-64", "".join(f"pxor xmm{n}, xmm{n}; " for n in range(16)) + VERSION),
-    ("aarch64", "".join(f"mvn x{n}, x{n}; " for n in range(19)) + ARM), ("x86-64", f"{COPY}; {VERSION}"),
-    ("x86-64", f"mov rax, fs:0x28; mov [rsp-8], rax; sub rax, fs:0x28; jne 1f; {VERSION}; 1: call __stack_chk_fail@PLT"),
-    ("x86-64", f"sub rsp, 24; mov rdi, rsp; mov edx, 9; call [rip+memset@GOTPCREL]; add rsp, 24; {VERSION}"),
-    ("aarch64", f"paciasp; autiasp; {ARM}"), ("aarch64", f"mov x3, #1; cmp x1, x1; cbnz x3, 1f; 1: b.ne 2f; {ARM}; 2: udf #0"),
-    ("aarch64", f"{GUARD}; ldr x2, [x1]; ldr x3, [x1]; sub x2, x2, x3; cbnz x2, 1f; {ARM}; 1: udf #0"),
-    *((processor, f"jmp [rip+2f+16]; 1: {VERSION}; {RELRO} 2: .quad 1b, 1b, 1b") for processor in ("x86-64", "packed")),
-    ("x86-64", f"{FLAG} {DETECT}"),
-    ("x86-64", f"{FLAG} {DETECT}".replace("jne 1f; 1:", "jne 1f; vpaddd ymm0, ymm0, ymm0; 1:")),
-    ("x86-64", f"test edi, edi; jle 1f; 1: {VERSION}"),
-    ("x86-64", LOOKED_UP + ", ".join(map(str, BITS))),
-    ("x86-64", f"push rbx; mov rbx, rdi; pop rbx; {VERSION}"), ("x86-64", f"mov [rsp-128], rax; mov rcx, [rsp-128]; {VERSION}"),
-    ("x86-64", f"sub rsp, 24; movaps [rsp], xmm0; add rsp, 24; {VERSION}"),
-    ("x86-64", f"add rax, rcx; inc rax; cmp rax, rax; jne 1f; {VERSION}; 1: ud2"), ("aarch64", ARM),
-    ("aarch64", f"stp x19, x20, [sp, #-16]!; mov x19, x0; ldp x19, x20, [sp], #16; {ARM}"),
-    ("aarch64", f"mov w2, w1; add x3, x9, w1, uxtw #3; sub x3, x3, x2, lsl #3; eor x3, x3, x9; cbnz x3, 1f; {ARM}; 1: udf #0"),
-    ("aarch64", f"cmp x1, x1; csinv x3, x9, xzr, ne; csinv x4, x9, x9, eq; eor x4, x4, x9; sub x3, x3, x4; mvn x3, x3; "
-                f"cbnz x3, 1f; {ARM}; 1: udf #0"),
-    ("aarch64", f"udiv x3, x0, x1; udiv x4, x0, x1; sub x3, x3, x4; cbnz x3, 1f; {ARM}; 1: udf #0"),
-    ("aarch64", f"mov x3, sp; orr x4, x3, #12; sub x4, x4, x3; cmp x4, #12; b.ne 1f; {ARM}; 1: udf #0"),
-    ("x86-64", f"mov rax, rsp; and rsp, -64; sub rsp, 64; movaps [rsp], xmm1; mov rsp, rax; {VERSION}"),
-    ("x86-64", f"lea r10, [rsp+8]; and rsp, -32; push [r10-8]; vmovdqa ymm0, [rsp-56]; pop rcx; lea rsp, [r10-8]; {VERSION}"),
-    *(("aarch64", f"cmp x1, x1; ccmp x1, x1, {bits}, ne; b.{name} 2f; {ARM}; 2: udf #0")
-      for bits, name in (("#0", "eq"), ("#4", "ne"), ("#2", "cc"), ("#0", "cs"))),
-    ("aarch64", "mov x1, #-1; mov x2, #1; adds x3, x1, x2; b.cc 2f; adcs x3, xzr, xzr; b.cs 2f; cmp x3, x2; b.ne 2f; "
-                f"adc x3, xzr, xzr; b.ne 2f; {ARM}; 2: udf #0"),
-    # AVX clears the rest of a vector, and so does a move of 64 bits.
-    ("x86-64", f"vpxor xmm1, xmm1, xmm1; vextracti128 xmm2, ymm1, 1; movq rax, xmm2; add eax, {calls.VERSION}; ret"),
-    ("x86-64", f"movq xmm1, xmm0; movq rax, xmm1; movq rcx, xmm0; sub rax, rcx; add eax, {calls.VERSION}; ret"),
-    ("x86-64", f"movq xmm1, xmm0; pextrq rax, xmm1, 1; add eax, {calls.VERSION}; ret"),
-    ("x86-64", f"mov rcx, [rsp-8]; {VERSION}"),  # nothing has written it
-    ("x86-64", f"vpcmpneqq k1, xmm0, xmm2; vmovdqu64 xmm1{{k1}}{{z}}, xmm0; {VERSION}"),
-]
-WRONG = [
-    *(("x86-64", f"not r{name}; {VERSION}", f"r{name} is not restored") for name in "bx bp 12 13 14 15".split()),
-    *(("aarch64", f"mvn x{n}, x{n}; {ARM}", f"x{n} is not restored") for n in range(19, 30)),
-    *(("aarch64", f"movi v{n}.16b, #1; {ARM}", f"v{n} is not restored") for n in range(8, 16)),
-    # What the loader gives.
-    ("x86-64", f"mov rax, [rsp]; mov ecx, 0xCA11E4; {OTHER}", "the result"),
-    ("x86-64", f"lea rax, [rip+1f]; shr rax, 40; mov ecx, 1; {OTHER}", "the result"),
-    ("x86-64", f"movzx eax, byte ptr [rip+2f]; mov ecx, 1; {OTHER}; .section .rodata; 2: .byte 2", "the result"),
-    *(("x86-64", f"mov ecx, [rip+1f]; {VERSION}; {section} 1: .quad {n}", "others may have written")
-      for section, n in ((".data;", 7), (".bss;", 0), (".data;", "sketch_hash_version"))),
-    ("x86-64", f"movabs rax, offset 1f; 1: {VERSION}", "the dynamic tag 0x16"),
-    ("x86-64", f"{VERSION}; .type sketch_hash_version, @gnu_indirect_function", "of type 0xa"),
-    ("x86-64", f"{VERSION}; other: ret; .globl other; .symver other, sketch_hash_version@@V2; "
-               ".symver sketch_hash_version, sketch_hash_version@V1", "two versions"),
-    ("x86-64", f"{FLAG} mov byte ptr [rip+flag], 1; ret", "does not allow"),
-    ("x86-64", f"{FLAG} {DETECT}".replace("1: mov", "1: vpaddd ymm0, ymm0, ymm0; mov"), "perhaps has none"),
-    ("x86-64", f"{FLAG} {DETECT}".replace("cmp eax, 6", "test eax, eax"), "does not allow"),
-    ("x86-64", f"{FLAG} {DETECT}".replace("jne 1f; 1:", "jne 1f; xor eax, eax; ret; 1:"), "the result"),
-    *(("x86-64", f"{FLAG} {DETECT}".replace(*change), "does not allow|must not be") for change in (
+# Codes by the reason why they are refused. Those of None are right.
+X86 = {
+    None: [
+        "".join(f"not r{name}; " for name in "ax cx dx si di 8 9 10 11".split()),
+        "".join(f"pxor xmm{n}, xmm{n}; " for n in range(16)), COPY, POINTERS, DETECT, TABLE,
+        "mov rax, fs:0x28; mov [rsp-8], rax; sub rax, fs:0x28; je 1f; call __stack_chk_fail@PLT; 1:",
+        "sub rsp, 24; mov rdi, rsp; mov edx, 9; call [rip+memset@GOTPCREL]; add rsp, 24",
+        DETECT.replace("jne 1f; 1:", "jne 1f; vpaddd ymm0, ymm0, ymm0; 1:"), "test edi, edi; jle 1f; 1:",
+        "push rbx; mov rbx, rdi; pop rbx", "mov [rsp-128], rax; mov rcx, [rsp-128]",
+        "sub rsp, 24; movaps [rsp], xmm0; add rsp, 24", "add rax, rcx; inc rax; cmp rax, rax; je 1f; ud2; 1:",
+        "mov rax, rsp; and rsp, -64; sub rsp, 64; movaps [rsp], xmm1; mov rsp, rax",
+        "lea r10, [rsp+8]; and rsp, -32; push [r10-8]; vmovdqa ymm0, [rsp-56]; pop rcx; lea rsp, [r10-8]",
+        # AVX clears the rest of a vector, and so does a move of 64 bits.
+        f"vpxor xmm1, xmm1, xmm1; vextracti128 xmm2, ymm1, 1; movq rax, xmm2; add eax, {calls.VERSION}; ret",
+        f"movq xmm1, xmm0; movq rax, xmm1; movq rcx, xmm0; sub rax, rcx; add eax, {calls.VERSION}; ret",
+        f"movq xmm1, xmm0; pextrq rax, xmm1, 1; add eax, {calls.VERSION}; ret",
+        "mov rcx, [rsp-8]",  # nothing has written it
+        "vpcmpneqq k1, xmm0, xmm2; vmovdqu64 xmm1{k1}{z}, xmm0"],
+    **{f"r{name} is not restored": [f"not r{name}"] for name in "bx bp 12 13 14 15".split()},
+    # Of what is in the file, or is asked of the loader.
+    "others may have written": [f"{section}; 1: .quad {n}; .text; mov ecx, [rip+1b]" for section, n in (
+        (".data", 7), (".bss", 0), (".data", "sketch_hash_version"))],
+    "the dynamic tag 0x16": ["movabs rax, offset 1f; 1:"],
+    "of type 0xa": [".type sketch_hash_version, @gnu_indirect_function",
+                    "1: .globl other; .set other, 1b; .type other, @gnu_indirect_function; .data; 2: .quad other; .text; "
+                    "jmp [rip+2b]"],
+    "two versions": ["nop; .globl other; other: .symver other, sketch_hash_version@@V2; "
+                     ".symver sketch_hash_version, sketch_hash_version@V1"],
+    "a segment of type 0x7": ['.section .tbss, "awT", @nobits; 2: .long 0; .text; mov rax, [rip+2b@gottpoff]'],
+    "a constructor that is not its own: puts": [f"{CONSTRUCTOR} puts; .text"],
+    "malloc, of another library, with the binding 0x2": ["mov rcx, [rip+malloc@GOTPCREL]; .weak malloc"],
+    # Of constructors.
+    "does not allow": [
+        f"{FLAG} mov byte ptr [rip+flag], 1; ret", DETECT.replace("cmp eax, 6", "test eax, eax"),
+        f"{FLAG} mov byte ptr [rip+flag], 1; ret; .globl _init".replace(CONSTRUCTOR, ".set _init,"),
+        f"{FLAG} mov byte ptr [rip+flag], 2; ret"],
+    "does not allow|must not be": [DETECT.replace(*change) for change in (
         ("and ebx, 1", "mov ebx, 1"), ("and ebx, 1", "and ebx, 1; add ebx, ebx"), ("7; xor ecx, ecx", "7; mov ecx, 1"),
-        ("cmp eax, 7; jb 9f; ", ""), ("xor ecx, ecx; xgetbv", "mov ecx, 1; xgetbv"))),
-    ("x86-64", f"{FLAG} {DETECT}".replace("1: mov", "1: vpbroadcastd xmm0, xmm0; mov"), "perhaps has none"),
-    ("x86-64", f"{FLAG} mov byte ptr [rip+flag], 1; ret".replace('.section .init_array, "aw"; .quad', ".set _init,")
-     + "; .globl _init", "does not allow"),
-    ("x86-64", f"mov rax, [rip+2f@gottpoff]; xor ecx, ecx; {OTHER}; .section .tbss, \"awT\", @nobits; 2: .long 0",
-     "a segment of type 0x7"),
-    ("x86-64", "jmp [rip+2f]; 1: ret; .globl other; .set other, 1b; .type other, @gnu_indirect_function; .data; 2: .quad other",
-     "of type 0xa"),
-    ("x86-64", f"{FLAG} call puts@PLT", "a call of puts"),
-    ("x86-64", f"{VERSION}; .section .init_array, \"aw\"; .quad puts", "a constructor that is not its own: puts"),
-    ("x86-64", f"mov rcx, [rip+malloc@GOTPCREL]; {VERSION}; .weak malloc", "malloc, of another library, with the binding 0x2"),
-    ("x86-64", f"mov eax, 0x3fc00000; movd xmm0, eax; cvttps2dq xmm1, xmm0; {VERSION}", "no power of two"),
-    ("x86-64", f"{FLAG} mov byte ptr [rip+flag], 2; ret", "does not allow"), ("x86-64", f"{FLAG} jmp set", "no end"),
-    ("x86-64", f"{FLAG} xor ecx, ecx; xgetbv; ret", "must not be"), ("x86-64", f"cpuid; {VERSION}", "must not be|depends"),
-    ("x86-64", f"mov fs:0x28, rcx; {VERSION}", "not among"), ("x86-64", "mov rax, fs:0x28; ret", "the result"),
-    ("aarch64", f"{GUARD}; str x0, [x1]; {ARM}", "outside"), ("aarch64", f"paciasp; {ARM}", "no function"),
-    ("aarch64", f"paciasp; sub sp, sp, #16; autiasp; add sp, sp, #16; {ARM}", "a signature"),
-    # Calls of the C library.
-    ("x86-64", f"mov r8d, 1; {COPY}; mov eax, r8d; mov ecx, 1; {OTHER}", "the result"),
-    ("x86-64", "push rbx; mov rdi, rsp; lea rsi, [rdi-8]; xor edx, edx; call memmove@PLT; pop rbx; jne 1f; 1: " + VERSION,
-     "not known"),
-    ("aarch64", f"stp x30, x19, [sp, #-32]!; mov x19, x0; mov v8.d[1], x0; add x0, sp, #16; mov x2, #8; bl memset; "
-                f"mov x1, v8.d[1]; sub x1, x1, x19; ldp x30, x19, [sp], #32; cbnz x1, 1f; {ARM}; 1: udf #0", "udf"),
-    ("x86-64", f"{COPY}; {VERSION}".replace("edx, 8", "rdx, rdi"), "the size"),
-    ("x86-64", f"call puts@PLT; {VERSION}", "of puts"),
-    ("x86-64", f"mov rax, [rip+memset@GOTPCREL]; add rax, 4; call rax; {VERSION}", "no function"),
-    ("x86-64", f"mov dword ptr [rsp-104], 1; {COPY}; mov eax, [rsp-104]; mov ecx, 1; {OTHER}", "the result"),
-    ("x86-64", f"{COPY}; {VERSION}".replace("+16]; mov edx", "+4]; mov edx"), "where it is from"),
-    ("x86-64", f"{COPY}; {VERSION}".replace("rdi, rsp", "rdi, rcx"), "outside"),
-    ("x86-64", f"{COPY}; {VERSION}".replace("edx, 8; call memcpy", "edx, 8; mov ecx, 7; call __memcpy_chk"), "does not fit"),
-    ("x86-64", "sub rsp, 256; mov [rsp], rdi; add rsp, 256; sub rsp, 256; mov rax, [rsp]; add rsp, 256; "
-               f"mov rcx, rdi; {OTHER}", "the result"),
-    ("x86-64", f"vmovdqa ymm0, [rsp-40]; {VERSION}", "not aligned"),
-    *(("x86-64", f"{name} xmm0, [rdi]; {VERSION}", "not aligned") for name in ("movapd", "vmovapd", "vmovaps", "vmovdqa")),
-    ("x86-64", LOOKED_UP + ", ".join(map(str, [*BITS[:31], 5])), "outside"),
-    ("x86-64", LOOKED_UP.replace("27", "26") + ", ".join(map(str, BITS * 2)), "outside"),
-    *(("x86-64", LOOKED_UP.replace(*change) + ", ".join(map(str, BITS)), "outside") for change in (
-        ("*4", "*2"), ("1: .long", ".data; 1: .long"))),
-    ("x86-64", LOOKED_UP.replace("mov eax, edi", "lea rdx, [rip+__ehdr_start]; sub rcx, rdx; add rcx, rsp; mov eax, edi")
-     + ", ".join(map(str, BITS)) + "; .hidden __ehdr_start", "outside"),
-    ("x86-64", f"push rbx; {VERSION}", "no function"),
-    ("x86-64", f"mov rcx, [rsp]; push rcx; {VERSION}", "the stack pointer is not restored"),
-    ("x86-64", f"sub rsp, 16; movaps [rsp], xmm0; add rsp, 16; {VERSION}", "not aligned"),
-    ("x86-64", f"movaps xmm0, [rsp]; {VERSION}", "not aligned"), ("x86-64", f"paddd xmm0, [rsp-16]; {VERSION}", "not aligned"),
-    ("x86-64", f"mov rcx, [rsp-136]; {VERSION}", "a read below the stack"),
-    ("x86-64", f"mov rcx, [rsp+8]; {VERSION}", "outside"),
-    ("x86-64", f"mov [rsp-136], rcx; {VERSION}", "outside"),
-    ("x86-64", f"push rcx; pop rcx; sub rsp, 8192; {VERSION}", "leaves the stack"),
-    ("x86-64", f"sub rsp, 8192; push rcx; {VERSION}", "leaves the stack"),
-    ("x86-64", "mov eax, [rsp-8]; ret", "the result"), ("x86-64", f"mov [rsp], rcx; {VERSION}", "outside"),
-    ("x86-64", f"mov [rsp+8], rcx; {VERSION}", "outside"), ("x86-64", f"mov rcx, [rdi]; {VERSION}", "outside"),
-    ("x86-64", f"lea rcx, [rip]; mov byte ptr [rcx], 1; {VERSION}", "outside"),
-    *(("x86-64", f"{before}; jc 1f; 1: {VERSION}", "carry|not known") for before in (
+        ("cmp eax, 7; jb 9f; ", ""), ("xor ecx, ecx; xgetbv", "mov ecx, 1; xgetbv"))],
+    "must not be|depends": [f"{FLAG} xor ecx, ecx; xgetbv; ret", "cpuid"],
+    "perhaps has none": [DETECT.replace("1: mov", f"1: {code}; mov") for code in (
+        "vpaddd ymm0, ymm0, ymm0", "vpbroadcastd xmm0, xmm0")],
+    "a call of puts": [f"{FLAG} call puts@PLT", "call puts@PLT"],
+    "no end": [f"{FLAG} jmp set", "1: jmp 1b"],
+    "the result": [
+        f"mov rax, [rsp]; mov ecx, 0xCA11E4; {OTHER}", f"lea rax, [rip+1f]; shr rax, 40; mov ecx, 1; {OTHER}",
+        f".section .rodata; 2: .byte 2; .text; movzx eax, byte ptr [rip+2b]; mov ecx, 1; {OTHER}",
+        DETECT.replace("jne 1f; 1:", "jne 1f; xor eax, eax; ret; 1:"), "mov rax, fs:0x28; ret",
+        f"mov r8d, 1; {COPY}; mov eax, r8d; mov ecx, 1; {OTHER}",
+        f"mov dword ptr [rsp-104], 1; {COPY}; mov eax, [rsp-104]; mov ecx, 1; {OTHER}",
+        "sub rsp, 256; mov [rsp], rdi; add rsp, 256; sub rsp, 256; mov rax, [rsp]; add rsp, 256; mov rcx, rdi; " + OTHER,
+        "mov eax, [rsp-8]; ret", f"mov ecx, {calls.VERSION}; mov rax, rdi; mov al, cl; ret", "ret"],
+    # Of calls of the C library.
+    "the size": [COPY.replace("edx, 8", "rdx, rdi")],
+    "where it is from": [COPY.replace("+16]; mov edx", "+4]; mov edx")],
+    "does not fit": [COPY.replace("edx, 8; call memcpy", "edx, 8; mov ecx, 7; call __memcpy_chk")],
+    # Of memory.
+    "not aligned": [
+        *(f"{name} xmm0, [rdi]" for name in ("movapd", "vmovapd", "vmovaps", "vmovdqa")), "vmovdqa ymm0, [rsp-40]",
+        "sub rsp, 16; movaps [rsp], xmm0; add rsp, 16", "movaps xmm0, [rsp]", "paddd xmm0, [rsp-16]",
+        "push rbp; mov rbp, rsp; and rsp, -32; movaps [rsp-8], xmm0; mov rsp, rbp; pop rbp"],
+    "a read below the stack": ["mov rcx, [rsp-136]"],
+    "outside": [
+        LOOKED_UP + ", ".join(map(str, [*BITS[:31], 5])), LOOKED_UP.replace("27", "26") + ", ".join(map(str, BITS * 2)),
+        *(TABLE.replace(*change) for change in (("*4", "*2"), ("1: .long", ".data; 1: .long"))),
+        TABLE.replace("mov eax, edi", "lea rdx, [rip+__ehdr_start]; sub rcx, rdx; add rcx, rsp; mov eax, edi")
+        + "; .hidden __ehdr_start",
+        COPY.replace("rdi, rsp", "rdi, rcx"), "mov rcx, [rsp+8]", "mov [rsp-136], rcx", "mov [rsp], rcx", "mov [rsp+8], rcx",
+        "mov rcx, [rdi]", "lea rcx, [rip]; mov byte ptr [rcx], 1", "xor ecx, ecx; mov rcx, [rcx+16]"],
+    "the stack pointer is not restored": ["mov rcx, [rsp]; push rcx"],
+    "leaves the stack": ["push rcx; pop rcx; sub rsp, 8192", "sub rsp, 8192; push rcx", "pop rcx; add rsp, 8; jmp rcx",
+                         "mov rax, rsp; mov rsp, rdi; mov rsp, rax"],
+    # Of conditions.
+    "carry|not known": [f"{before}; jc 1f; 1:" for before in (
         "imul rcx, rdx", "cmp rcx, rdx; inc rcx", "shl rcx, 3", "cmp rcx, rcx; rol rcx, 3", "ror rcx, 3", "add rcx, rdx",
         "mov rax, rdx", "neg rcx; dec rcx", "shld rcx, rdx, 3", "shrd rcx, rdx, 3", "test rcx, rcx; sar rcx, 1",
-        "cmp rcx, rcx; sbb rcx, rdx", "xor ecx, ecx; cmp ecx, 1; inc ecx")),
-    *(("x86-64", f"{before}; je 1f; 1: {VERSION}", "not known|understood") for before in (
+        "cmp rcx, rcx; sbb rcx, rdx", "xor ecx, ecx; cmp ecx, 1; inc ecx")],
+    "not known|understood": [f"{before}; je 1f; 1:" for before in (
         "imul rcx, rdx", "shld rcx, rdx, 3", "imul rcx, rdx; rol rcx, 3", "cmp rcx, rcx; sbb rcx, rdx", "bt rcx, 3",
-        "cmp rcx, rcx; mul rdx", "xor edx, edx; mov eax, 7; mov ecx, 3; cmp rcx, rcx; div ecx", "mov edx, 1; shl edx, cl")),
-    ("x86-64", f"cmp rcx, rdx; jo 1f; 1: {VERSION}", "not among"), ("x86-64", f"cmp rcx, rdx; jl 1f; 1: {VERSION}", "signed"),
-    ("x86-64", f"cmp rcx, rdx; jle 1f; 1: {VERSION}", "signed"), ("x86-64", f"test edi, edi; jg 1f; ud2; 1: {VERSION}", "ud2"),
-    ("x86-64", f"mov ecx, {calls.VERSION}; mov rax, rdi; mov al, cl; ret", "the result"), ("x86-64", "ret", "the result"),
-    ("x86-64", f"1: jmp 1b; {VERSION}", "no end"), ("x86-64", "ud2", "not among"),
-    ("x86-64", f"jmp rcx; {VERSION}", "no function"),
-    ("x86-64", f"pop rcx; add rsp, 8; jmp rcx; {VERSION}", "leaves the stack"),
-    ("x86-64", f"mov rax, rsp; mov rsp, rdi; mov rsp, rax; {VERSION}", "leaves the stack"),
-    *(("x86-64", f"{code}; {VERSION}", "not understood") for code in ("mov ah, 1", "mov rcx, ds:16")),
-    ("x86-64", f"push rbp; mov rbp, rsp; and rsp, -32; movaps [rsp-8], xmm0; mov rsp, rbp; pop rbp; {VERSION}", "not aligned"),
-    *(("x86-64", f"mov rax, rsp; push rdi; pop rdi; and rsp, {mask}; {code}; mov rsp, rax; {after}{VERSION}", reason)
-      for mask, code, after, reason in (
-          (-32, "mov rcx, [rax-8]", "", "below the stack"), (-32, "mov [rsp], rdi", "", "outside"),
-          (-32, "mov rcx, rsp; mov [rcx-8], rdi", "mov rdx, [rcx-8]; ", "outside"),
-          (-32, "vmovdqa ymm0, [rsp-48]", "", "not aligned"), (-16, "vmovdqa ymm0, [rsp-64]", "", "not aligned"),
-          (-32, "and rsp, -64", "", "alignment"), (-128, "nop", "", "alignment"), (-32, "sub rsp, 8192", "", "leaves"))),
-    ("x86-64", f"xor ecx, ecx; mov rcx, [rcx+16]; {VERSION}", "outside"),
-    ("x86-64", f"mov edx, 2; mov ecx, edi; shl edx, cl; {VERSION}", "a shift"),
-    ("x86-64", f"vpsllvd xmm0, xmm1, xmm2; {VERSION}", "a shift that"),
-    ("aarch64", f"cls x1, x0; {ARM}", "not among"),
-    ("aarch64", f"udiv x3, x0, x1; udiv x4, x1, x0; sub x3, x3, x4; cbnz x3, 1f; {ARM}; 1: udf #0", "udf"),
-    ("aarch64", f"mov x3, sp; orr x4, x3, #16; sub x4, x4, x3; cmp x4, #16; b.ne 1f; {ARM}; 1: udf #0", "udf"),
-    ("aarch64", f"movi v0.16b, #128; movi v1.16b, #255; sshl v0.4s, v0.4s, v1.4s; {ARM}", "a signed shift to the right"),
-    ("aarch64", f"sub sp, sp, #16; {ARM}", "the stack pointer is not restored"),
-    ("aarch64", f"str x0, [sp, #-16]; {ARM}", "outside"),
-    ("aarch64", f"sub sp, sp, #8; str x0, [sp]; add sp, sp, #8; {ARM}", "not aligned"),
-    ("aarch64", f"ldr x1, [sp, #-16]; {ARM}", "below"),
-    ("aarch64", f"mov x30, x0; {ARM}", "no function"), ("aarch64", f"adds x1, x1, x2; b.cs 1f; 1: {ARM}", "carry"),
-    *(("aarch64", f"{before}; 1: {ARM}", "carry|not understood") for before in (
-        "tst x1, x2; b.hi 1f", "tst x1, x2; b.cs 1f", "adds x1, x1, x2; b.hi 1f", "cmp x1, x1; sbcs x3, x1, x2; b.cs 1f")),
-    ("aarch64", f"cmp x1, x1; sbcs x3, x1, x2; b.eq 1f; 1: {ARM}", "not known"),
-    ("aarch64", f"cmp x1, x2; b.vs 1f; 1: {ARM}", "not among"),
-]
+        "cmp rcx, rcx; mul rdx", "xor edx, edx; mov eax, 7; mov ecx, 3; cmp rcx, rcx; div ecx", "mov edx, 1; shl edx, cl",
+        "push rbx; mov rdi, rsp; lea rsi, [rdi-8]; xor edx, edx; call memmove@PLT; pop rbx")],
+    "signed": ["cmp rcx, rdx; jl 1f; 1:", "cmp rcx, rdx; jle 1f; 1:"],
+    # Of instructions, and of where they go.
+    "not among": ["mov fs:0x28, rcx", "cmp rcx, rdx; jo 1f; 1:", "ud2"],
+    "ud2": ["test edi, edi; jg 1f; ud2; 1:"],
+    "not understood": ["mov ah, 1", "mov rcx, ds:16"],
+    "no function": ["mov rax, [rip+memset@GOTPCREL]; add rax, 4; call rax", "push rbx", "jmp rcx"],
+    "no power of two": ["mov eax, 0x3fc00000; movd xmm0, eax; cvttps2dq xmm1, xmm0"],
+    "a shift": ["mov edx, 2; mov ecx, edi; shl edx, cl"], "a shift that": ["vpsllvd xmm0, xmm1, xmm2"],
+}
+# Of the stack, once its pointer is aligned.
+for reason, mask, code, after in (
+        ("below the stack", -32, "mov rcx, [rax-8]", ""), ("outside", -32, "mov [rsp], rdi", ""),
+        ("outside", -32, "mov rcx, rsp; mov [rcx-8], rdi", "mov rdx, [rcx-8]"), ("leaves", -32, "sub rsp, 8192", ""),
+        ("not aligned", -32, "vmovdqa ymm0, [rsp-48]", ""), ("not aligned", -16, "vmovdqa ymm0, [rsp-64]", ""),
+        ("alignment", -32, "and rsp, -64", ""), ("alignment", -128, "nop", "")):
+    aligned = f"mov rax, rsp; push rdi; pop rdi; and rsp, {mask}; {code}; mov rsp, rax; {after}"
+    X86[reason] = [*X86.get(reason, []), aligned]
+AARCH64 = {
+    None: [
+        "".join(f"mvn x{n}, x{n}; " for n in range(19)), "paciasp; autiasp", "",
+        "mov x3, #1; cmp x1, x1; cbnz x3, 1f; 1: b.eq 2f; udf #0; 2:", f"{GUARD}; ldr x2, [x1]; ldr x3, [x1]; sub x3, x2, x3; {IF_0}",
+        "stp x19, x20, [sp, #-16]!; mov x19, x0; ldp x19, x20, [sp], #16",
+        f"mov w2, w1; add x3, x9, w1, uxtw #3; sub x3, x3, x2, lsl #3; eor x3, x3, x9; {IF_0}",
+        f"cmp x1, x1; csinv x3, x9, xzr, ne; csinv x4, x9, x9, eq; eor x4, x4, x9; sub x3, x3, x4; mvn x3, x3; {IF_0}",
+        f"udiv x3, x0, x1; udiv x4, x0, x1; sub x3, x3, x4; {IF_0}",
+        f"mov x3, sp; orr x4, x3, #12; sub x4, x4, x3; sub x3, x4, #12; {IF_0}",
+        *(f"cmp x1, x1; ccmp x1, x1, {bits}, ne; b.{name} 1f; udf #0; 1:"
+          for bits, name in (("#0", "ne"), ("#4", "eq"), ("#2", "cs"), ("#0", "cc"))),
+        "mov x1, #-1; mov x2, #1; adds x3, x1, x2; b.cc 2f; adcs x3, xzr, xzr; b.cs 2f; cmp x3, x2; b.ne 2f; "
+        "adc x3, xzr, xzr; b.eq 3f; 2: udf #0; 3:"],
+    **{f"x{n} is not restored": [f"mvn x{n}, x{n}"] for n in range(19, 30)},
+    **{f"v{n} is not restored": [f"movi v{n}.16b, #1"] for n in range(8, 16)},
+    "outside": [f"{GUARD}; str x0, [x1]", "str x0, [sp, #-16]"],
+    "below": ["ldr x1, [sp, #-16]"], "not aligned": ["sub sp, sp, #8; str x0, [sp]; add sp, sp, #8"],
+    "no function": ["paciasp", "mov x30, x0"], "a signature": ["paciasp; sub sp, sp, #16; autiasp; add sp, sp, #16"],
+    "the stack pointer is not restored": ["sub sp, sp, #16"],
+    "udf": [
+        "stp x30, x19, [sp, #-32]!; mov x19, x0; mov v8.d[1], x0; add x0, sp, #16; mov x2, #8; bl memset; mov x1, v8.d[1]; "
+        f"sub x3, x1, x19; ldp x30, x19, [sp], #32; {IF_0}",
+        f"udiv x3, x0, x1; udiv x4, x1, x0; sub x3, x3, x4; {IF_0}",
+        f"mov x3, sp; orr x4, x3, #16; sub x4, x4, x3; sub x3, x4, #16; {IF_0}"],
+    "a signed shift to the right": ["movi v0.16b, #128; movi v1.16b, #255; sshl v0.4s, v0.4s, v1.4s"],
+    "carry|not understood": [f"{before}; 1:" for before in (
+        "adds x1, x1, x2; b.cs 1f", "tst x1, x2; b.hi 1f", "tst x1, x2; b.cs 1f", "adds x1, x1, x2; b.hi 1f",
+        "cmp x1, x1; sbcs x3, x1, x2; b.cs 1f")],
+    "not known": ["cmp x1, x1; sbcs x3, x1, x2; b.eq 1f; 1:"],
+    "not among": ["cls x1, x0", "cmp x1, x2; b.vs 1f; 1:"],
+}
+PLANTED = {"x86-64": X86, "aarch64": AARCH64, "packed": {None: [POINTERS]}}
 
 
-@pytest.mark.parametrize("processor, code, reason", [*((*row, None) for row in RIGHT), *WRONG], ids=str)
+@pytest.mark.parametrize("processor, code, reason", [
+    (processor, code, reason) for processor in PLANTED for reason, codes in PLANTED[processor].items() for code in codes], ids=str)
 def test_code_that_breaks_a_rule_is_refused(processor, code, reason, machine_of, monkeypatch):
     monkeypatch.setattr(Machine, "limit", 10_000)  # a loop without an end is noticed earlier
     with refused(reason):
         machine = machine_of(processor, code)
-        checks.on_each_setting(machine.library, partial(
-            calls.check_call, machine, "hash_version", calls.Call, [], [], number(calls.VERSION, 32)))
+        checks.on_each_setting(machine.library, partial(check_version, machine))
 
 
-@pytest.mark.parametrize("code", ["cls x1, x0", "cls v0.4s, v1.4s", "mov w1, wsp", "add w1, wsp, #4"])
-def test_an_operation_that_is_not_known_is_refused(code, machine_of, monkeypatch):
-    for forms, reason in (aarch64.Aarch64.forms, "not among"), (Every(), "is not known|not understood"):
-        monkeypatch.setattr(aarch64.Aarch64, "forms", forms)
-        with refused(reason):
-            calls.check_call(machine_of("aarch64", f"{code}; {ARM}"), "hash_version", calls.Call, [], [])
-
-
-@pytest.mark.parametrize("code", [
+# What an operation does otherwise than the code here says.
+OTHERWISE = {"aarch64": ["cls x1, x0", "cls v0.4s, v1.4s", "mov w1, wsp", "add w1, wsp, #4"], "x86-64": [
     "push ax; add rsp, 8", "push rdi; pop ax", ".byte 0x66,0x0f,0xc8", ".byte 0x64,0x48,0x8d,4,0x25,0x28,0,0,0", "mul cl",
     "lea rsi, [rsp-16]; lea rdi, [rsp-8]; mov ecx, 4; .byte 0xf3,0x64,0xa4", ".fill 14,1,0x2e; mov rcx, rax",
     "bt [rsp-8], rcx", "mov ecx, 1; div cl", "mov edx, 3; xor eax, eax; mov ecx, 3; div ecx",
-    ".byte 0x66,0xff,0xe0", "shld cx, dx, 20", "ret 8", "std", ".fill 15,1,0x66; nop",
-    "vpcmpeqd k1, xmm1, xmm1",
-    ".byte 0xf3; push rax", "data16 ret", "mov ah, 1", "mov fs:0x28, rcx", "cmp rcx, rdx; jo 1f; 1:",
-])
-def test_an_operation_refuses_what_it_does_otherwise(code, machine_of, monkeypatch):
+    ".byte 0x66,0xff,0xe0", "shld cx, dx, 20", "ret 8", "std", ".fill 15,1,0x66; nop", "vpcmpeqd k1, xmm1, xmm1",
+    ".byte 0xf3; push rax", "data16 ret", "mov ah, 1", "mov fs:0x28, rcx", "cmp rcx, rdx; jo 1f; 1:"]}
+
+
+@pytest.mark.parametrize("processor, code", [(processor, code) for processor in OTHERWISE for code in OTHERWISE[processor]])
+def test_an_operation_refuses_what_it_does_otherwise(processor, code, machine_of, monkeypatch):
     """Without the table of forms too."""
-    machine = machine_of("x86-64", f"{code}; {VERSION}")
-    for forms in x86.X86.forms, Every():
-        monkeypatch.setattr(x86.X86, "forms", forms)
+    machine, kind = machine_of(processor, code), checks.MACHINES[processor]
+    for forms in kind.forms, Every():
+        monkeypatch.setattr(kind, "forms", forms)
         with pytest.raises(Stop):
-            calls.check_call(machine, "hash_version", calls.Call, [], [], number(calls.VERSION, 32))
+            check_version(machine)
 
 
 @pytest.mark.parametrize("function, arguments, reason", [
@@ -443,7 +428,7 @@ def test_an_operation_refuses_what_it_does_otherwise(code, machine_of, monkeypat
 def test_a_call_is_given_as_many_arguments_as_the_header_has(function, arguments, reason, machine_of):
     """With more, it could write to the stack of its caller."""
     with refused(reason), values.case():
-        machine_of("x86-64", VERSION)().begin(function, [unknown("length", 64)] * arguments)
+        machine_of("x86-64")().begin(function, [unknown("length", 64)] * arguments)
 
 
 # ---- arrays, of which a call gets so many bytes as an unknown says
@@ -458,7 +443,7 @@ def array(is_writable=True):
 @pytest.mark.parametrize("is_writable, reason", [(True, None), (False, "may only read")])
 def test_an_array_that_is_only_read_is_not_written(is_writable, reason, machine_of):
     with refused(reason), values.case():
-        run = machine_of("x86-64", VERSION)()
+        run = machine_of("x86-64")()
         run.give(array(is_writable))
         run.store(calls.out, number(1, 8))
 
@@ -466,7 +451,7 @@ def test_an_array_that_is_only_read_is_not_written(is_writable, reason, machine_
 @pytest.mark.parametrize("offset, reason", [(0, None), (-4, "outside"), (4, "outside")])
 def test_a_store_is_within_what_may_be_written(offset, reason, machine_of):
     with refused(reason), values.case():
-        run = machine_of("x86-64", VERSION)()
+        run = machine_of("x86-64")()
         run.map(calls.out, [number(0)], writable=True)
         run.store(add(calls.out, number(offset)), number(1))
 
@@ -523,7 +508,7 @@ mov [rdi], rsi; mov [rdi+8], rsi; xor eax, eax; mov [rdi+16], rax; mov [rdi+24],
     (RESET, "ud2", "ud2", None), (RESET, "mov [rdi+32], rax", "", "what is written"),
 ])
 def test_a_call_that_writes_other_bytes_is_refused(code, before, after, reason, machine_of):
-    machine = machine_of("x86-64", f"{VERSION}\n{code.replace(before, after)}")
+    machine = machine_of("x86-64", others=code.replace(before, after))
     with refused(reason):
         if code == RESET:
             calls.check_call(machine, "murmur3_x64_128_reset", hashes.reset, "murmur")
@@ -562,7 +547,7 @@ WRONG_BLOCK = "movdqu [rdi+rax-32], xmm7"
 ])
 def test_a_loop_that_breaks_a_rule_is_refused(code, before, after, reason, machine_of):
     text = code.replace(before, after, 1)
-    machine = machine_of("x86-64", f"{VERSION}\n{text if '8:' in text else text.replace('8b', '1b')}")
+    machine = machine_of("x86-64", others=text if "8:" in text else text.replace("8b", "1b"))
     make = partial(filters.Merge, machine, True)
 
     def run():
@@ -576,9 +561,9 @@ def test_a_loop_that_breaks_a_rule_is_refused(code, before, after, reason, machi
 
 
 def test_a_loop_without_the_words_of_the_definition_is_refused(machine_of):
-    code = f"{VERSION}; .globl sketch_xxh64; sketch_xxh64: 1: sub rsi, 32; ja 1b; ret"
+    machine = machine_of("x86-64", others=".globl sketch_xxh64; sketch_xxh64: 1: sub rsi, 32; ja 1b; ret")
     with refused("the words of the definition are not found"):
-        loops.prove(partial(hashes.OneCall, machine_of("x86-64", code), "xxh64", number(0)), [1])
+        loops.prove(partial(hashes.OneCall, machine, "xxh64", number(0)), [1])
 
 
 def test_loops_that_few_keys_do_not_reach_are_refused():
@@ -600,69 +585,47 @@ def texts(machine, is_insert):
     return filters.TextsCall(machine, is_insert, 64)
 
 
-def wrong_calls(condition, *functions):
-    """The text of the library with other calls, each with another result if a condition holds of its count or its length."""
-    header, lines = re.sub(r"/\*.*?\*/", "", library.HEADER, flags=re.S), ["#define SKETCH_HASH_NAMESPACE right_"]
-    lines.append('#include "sketch_hash.c"')
-    for result, name, parameters in re.findall(r"SKETCH_HASH_API (\w+) sketch_(\w+)\(([^;{}]*)\);", header):
+DECLARED = {name: (result, parameters) for result, name, parameters in re.findall(
+    r"SKETCH_HASH_API (\w+) sketch_(\w+)\(([^;{}]*)\);", re.sub(r"/\*.*?\*/", "", library.HEADER, flags=re.S))}
+
+
+def wrong_if(condition, *functions):
+    """Bodies of calls that have another result if a condition holds of their count or their length."""
+    bodies = {}
+    for name in functions or DECLARED:
         names = library.PARAMETERS[name]
         size = next((item for item in ("count", "hash_count", "offset_count", "length") if item in names), None)
-        call, to = f"right_sketch_{name}({', '.join(names)})", "hash" if "hash" in names else "state"
-        body = f"{call}; if ({size} {condition}) *(char *){to} ^= 1;" if result == "void" else (
-            f"{result} result = {call}; return {size} {condition} ? 7 : result;")
-        if size and (not functions or name in functions):
-            lines.append(f"#undef sketch_{name}\n{result} sketch_{name}({parameters}) {{ {body} }}")
-    return "\n".join(lines) + "\n"
+        if DECLARED[name][0] == "void":
+            change = f"RIGHT; if ({size} {condition}) *(char *){'hash' if 'hash' in names else 'state'} ^= 1;"
+        else:
+            change = f"{DECLARED[name][0]} result = RIGHT; return {size} {condition} ? 7 : result;"
+        bodies |= {name: change} if size else {}
+    return bodies
 
 
-def built_of(text, tmp):
-    (tmp / "text.c").write_text(text)
+def built_of(bodies, tmp):
+    """The library with other bodies of some calls, in which RIGHT is the library's own call."""
+    lines = ["#define SKETCH_HASH_NAMESPACE right_", '#include "sketch_hash.c"']
+    for name, body in bodies.items():
+        (result, parameters), right = DECLARED[name], f"right_sketch_{name}({', '.join(library.PARAMETERS[name])})"
+        lines.append(f"#undef sketch_{name}\n{result} sketch_{name}({parameters}) {{ {body.replace('RIGHT', right)} }}\n")
+    (tmp / "text.c").write_text("\n".join(lines))
     build(["gcc", "-fno-inline-functions", "-I", DIST], tmp / "text.so", text=tmp / "text.c")
     return library.read(tmp / "text.so")
 
 
-WRONG = wrong_calls("== 500", "xxh64", "murmur3_x64_128", "xxh64_update", "murmur3_x64_128_update") + """
-#undef sketch_xxh64_each64
-int sketch_xxh64_each64(const void *input, size_t length, const uint64_t *offsets, size_t offset_count, uint64_t seed,
-                        uint64_t *out, size_t count, size_t *wrong_offset) {
-    int status = right_sketch_xxh64_each64(input, length, offsets, offset_count, seed, out, count, wrong_offset);
-    if (status != 0 && count != 0) *(char *)out = 1;
-    if (status == 0) *wrong_offset = 0;
-    return status;
+WRONG = wrong_if("== 500", "xxh64", "murmur3_x64_128", "xxh64_update", "murmur3_x64_128_update") | {
+    "xxh64_each64": """int status = RIGHT;
+        if (status != 0 && count != 0) *(char *)out = 1;
+        if (status == 0) *wrong_offset = 0;
+        return status;""",
+    "murmur3_x64_128_each64": "int status = RIGHT; return status + 2 * (*wrong_offset == offset_count);",
+    "bloom_contains_hash": "return RIGHT | (hash == 500) << 1;",
+    "bloom_bytes_for": "one_in += keys == 9; return RIGHT;",
+    "bloom_insert_each64": "return offset_count == 2 && offsets[0] + 500 == offsets[1] ? 0 : RIGHT;",
+    "bloom_contains_each64": "int status = RIGHT; if (status == 0 && count > 6400) found[6400] = 0; return status;",
+    "bloom_insert_each_hash": "count -= count >= 3; return RIGHT;",
 }
-#undef sketch_murmur3_x64_128_each64
-int sketch_murmur3_x64_128_each64(const void *input, size_t length, const uint64_t *offsets, size_t offset_count,
-                                  uint64_t seed, uint64_t (*out)[2], size_t count, size_t *wrong_offset) {
-    int status = right_sketch_murmur3_x64_128_each64(input, length, offsets, offset_count, seed, out, count, wrong_offset);
-    return status + 2 * (*wrong_offset == offset_count);
-}
-#undef sketch_bloom_contains_hash
-int sketch_bloom_contains_hash(const void *bits, size_t length, uint64_t hash) {
-    return right_sketch_bloom_contains_hash(bits, length, hash) | (hash == 500) << 1;
-}
-#undef sketch_bloom_bytes_for
-size_t sketch_bloom_bytes_for(uint64_t keys, uint64_t one_in) {
-    return right_sketch_bloom_bytes_for(keys, one_in + (keys == 9));
-}
-#undef sketch_bloom_insert_each64
-int sketch_bloom_insert_each64(void *bits, size_t length, const void *keys, size_t keys_length, const uint64_t *offsets,
-                               size_t offset_count, size_t *wrong_offset) {
-    if (offset_count == 2 && offsets[0] + 500 == offsets[1]) return 0;
-    return right_sketch_bloom_insert_each64(bits, length, keys, keys_length, offsets, offset_count, wrong_offset);
-}
-#undef sketch_bloom_contains_each64
-int sketch_bloom_contains_each64(const void *bits, size_t length, const void *keys, size_t keys_length, const uint64_t *offsets,
-                                 size_t offset_count, unsigned char *found, size_t count, size_t *wrong_offset) {
-    int status = right_sketch_bloom_contains_each64(bits, length, keys, keys_length, offsets, offset_count, found, count,
-                                                    wrong_offset);
-    if (status == 0 && count > 6400) found[6400] = 0;
-    return status;
-}
-#undef sketch_bloom_insert_each_hash
-int sketch_bloom_insert_each_hash(void *bits, size_t length, const uint64_t *hashes, size_t count) {
-    return right_sketch_bloom_insert_each_hash(bits, length, hashes, count - (count >= 3));
-}
-"""
 REFUSED = [
     lambda m: loops.prove_each_rest(partial(hashes.OneCall, m, "xxh64"), 32),
     lambda m: loops.prove(partial(hashes.OneCall, m, "murmur", number(500 % 16)), [1]),
@@ -711,7 +674,7 @@ def late_loops(m):
 @pytest.fixture(scope="module")
 def late_library(need, tmp_path_factory):
     need("gcc")
-    return functools.cache(lambda limit: built_of(wrong_calls(f"> 1ull << {limit}"), tmp_path_factory.mktemp("late")))
+    return functools.cache(lambda limit: built_of(wrong_if(f"> 1ull << {limit}"), tmp_path_factory.mktemp("late")))
 
 
 @pytest.mark.parametrize("i", range(len(late_loops(None))))
@@ -769,6 +732,6 @@ lea r10, [r9-1]; cmp rcx, [r8+r10*8]; jb 2f; xor eax, eax
     ("mov rdi, rax", "", "a right offset ends"), ("inc rdx", "add rdx, 2", "none of the subject"),
 ])
 def test_each_offset_is_looked_at(before, after, reason, machine_of):
-    machine = machine_of("x86-64", f"{VERSION}\n{OFFSETS.replace(before, after)}; 5: ud2")
+    machine = machine_of("x86-64", others=f"{OFFSETS.replace(before, after)}; 5: ud2")
     with refused(reason):
         keys.prove_offsets(filters.TextsCall(machine, True, 64))
