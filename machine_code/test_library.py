@@ -2,12 +2,10 @@
 import struct
 import subprocess
 
-import calls
 import checks
 import library
 import pytest
-from test_checks import COMPILERS, VERSION, build, refused
-from values import number
+from test_checks import COMPILERS, VERSION, build, check_version, refused
 
 
 @pytest.fixture(scope="module")
@@ -91,8 +89,7 @@ def test_an_object_file_has_nothing_that_a_linker_may_take_otherwise(more, optio
     subprocess.run(["ar", "rc", tmp_path / "one.a", tmp_path / "code.o"], check=True)
     for name in "code.o", "one.a":
         with refused(reason):
-            machine = checks.machine_of(library.read(tmp_path / name))
-            calls.check_call(machine, "hash_version", calls.Call, [], [], number(calls.VERSION, 32))
+            check_version(checks.machine_of(library.read(tmp_path / name)))
 
 
 def test_an_archive_has_one_object_file_of_machine_code(need, tmp_path):

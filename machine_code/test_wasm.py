@@ -220,9 +220,13 @@ def test_a_truncated_module_fails(size, tmp_path):
     ("global.get __stack_pointer; i32.const 256; i32.sub; i64.load 0; drop", "a read below the stack"),
     ("local.get 0; i32.wrap_i64; i64.load 0; drop", "outside"), ("i32.const 64; i64.load 0; drop", None),
     ("local.get 0; global.set other", "is not restored"), ("global.get other; global.set other", None),
+    ("f64.const 1.0; drop", "opcode 0x44.*is not known"), ("block i64; local.get 0; end_block; drop", "not understood"),
+    ("local.get 0; local.get 1; i32.wrap_i64; br_if 0; drop", "returns a value"),
 ])
 def test_code_that_breaks_a_rule_is_refused(code, reason, assembled):
-    built = Module(assembled({"sketch_code": f"{code}; local.get 0"}).read_bytes())
+    """And no other function of its module."""
+    built = Module(assembled({"sketch_code": f"{code}; local.get 0", "sketch_right": "local.get 0"}).read_bytes())
+    assert answer(built, "sketch_right", [5, 6], set()) == "5"
     with refused(reason):
         answer(built, "sketch_code", [2 ** 31, 0], set())
 
@@ -257,6 +261,14 @@ def module_of(parts):
     return b"\0asm\1\0\0\0" + b"".join(bytes([n]) + size + data for (n, data), size in zip(parts, sizes))
 
 
+SECTIONS = sections()
+ORDER = [1, 2, 3, 4, 5, 6, 7, 8, 12, 10, 11]
+
+
+def with_export(export):
+    return {7: bytes([SECTIONS[7][0] + 1]) + export + SECTIONS[7][1:]}
+
+
 DATA = [b"\0\x41" + at + b"\x0b\2ab" for at in (b"\x80\x08", b"\x81\x08", b"\x82\x08", b"\x80\x80\x80\x80\x01")]
 CHANGED = [
     ({}, None), ({12: b"\1"}, None), ({5: b"\2\0\2\0\2"}, "2 memories"), ({5: b"\0"}, "0 memories"), ({5: b"\1\4\2"}, "0x4 at"),
@@ -264,36 +276,20 @@ CHANGED = [
     ({11: b"\2" + DATA[0] + DATA[2]}, None), ({11: b"\2" + DATA[0] + DATA[1]}, "overlaps"),
     ({11: b"\2" + DATA[2] + DATA[0]}, "overlaps"), ({11: b"\1" + DATA[3]}, "outside of its memory"),
     ({11: b"\1\1" + DATA[0][1:]}, "0x1 at"), ({1: b"\1\x60\1\x7c\0"}, "0x7c at"), ({1: b"\1\x50\0\0"}, "0x50 at"),
-    ({6: b"\1\x7f\1\x23\0\x0b"}, "0x23 at"), ({6: b"\1\x7f\1\x41\0\x41"}, "0x41 at"),
+    ({6: b"\1\x7f\1\x23\0\x0b"}, "0x23 at"), ({6: b"\1\x7f\1\x41\0\x41"}, "0x41 at"), (with_export(b"\1g\3\1"), None),
+    (with_export(b"\1g\3\0"), "a global that anybody can change"), (with_export(b"\1g\0\1"), "exports g"),
+    (with_export(b"\1g\1\0"), "0x1 at"),
 ]
+WRONG_ORDERS = [1, 1, 3, 5, 6, 7, 10, 11], [1, 5, 3, 6, 7, 10, 11], [1, 3, 5, 5, 6, 7, 10, 11]
 
 
-@pytest.mark.parametrize("changes, reason", CHANGED)
-def test_what_is_on_no_list_of_a_module_is_refused(changes, reason, tmp_path):
-    order = [1, 2, 3, 4, 5, 6, 7, 8, 12, 10, 11]
-    parts = {**sections(), **changes}
+@pytest.mark.parametrize("changes, reason, order", [
+    *((*row, ORDER) for row in CHANGED), *(({}, "not in its place", order) for order in WRONG_ORDERS)])
+def test_what_is_on_no_list_of_a_module_is_refused(changes, reason, order, tmp_path):
+    parts = {**SECTIONS, **changes}
     (tmp_path / "module").write_bytes(module_of([(n, parts[n]) for n in order if n in parts]))
     with refused(reason):
         library.read(tmp_path / "module")
-
-
-@pytest.mark.parametrize("export, reason", [
-    (b"\1g\3\0", "a global that anybody can change"), (b"\1g\3\1", None), (b"\1g\0\1", "exports g"), (b"\1g\1\0", "0x1 at"),
-])
-def test_an_export_may_not_change_what_the_module_has(export, reason, tmp_path):
-    parts = sections()
-    (count,) = parts[7][:1]
-    parts[7] = bytes([count + 1]) + export + parts[7][1:]
-    (tmp_path / "module").write_bytes(module_of([*parts.items()]))
-    with refused(reason):
-        library.read(tmp_path / "module")
-
-
-@pytest.mark.parametrize("order", [[1, 1, 3, 5, 6, 7, 10, 11], [1, 5, 3, 6, 7, 10, 11], [1, 3, 5, 5, 6, 7, 10, 11]])
-def test_a_section_is_in_its_place_once(order):
-    parts = sections()
-    with refused("not in its place"):
-        library.read_data(module_of([(n, parts[n]) for n in order]))
 
 
 def test_a_function_has_the_types_of_the_header():
@@ -303,16 +299,3 @@ def test_a_function_has_the_types_of_the_header():
         built.entries[start] = (*types, 2)
         with refused(reason), values.case():
             wasm.Wasm(built).begin("bloom_check", [unknown("length", 64)])
-
-
-def test_an_instruction_that_is_not_known_stops_its_function_alone(assembled):
-    built = Module(assembled({"sketch_wrong": "f64.const 1.0; drop; local.get 0", "sketch_right": "local.get 0"}).read_bytes())
-    assert answer(built, "sketch_right", [5, 6], set()) == "5"
-    with refused("opcode 0x44.*is not known"):
-        answer(built, "sketch_wrong", [5, 6], set())
-
-
-@pytest.mark.parametrize("code", ["block i64; local.get 0; end_block", "local.get 0; br 0"])
-def test_a_block_with_a_value_is_not_understood(code, assembled):
-    with refused("not understood|returns a value"):
-        answer(Module(assembled({"sketch_code": code}).read_bytes()), "sketch_code", [5, 6], set())
