@@ -110,6 +110,8 @@ PLAIN = {
     "sbfx": by_numbers(lambda x, at, width: sign_extend(cut(x, at, width), width_of(x))),
     "ubfiz": by_numbers(lambda x, at, width: replace(number(0, width_of(x)), at, cut(x, 0, width))),
     "sbfiz": by_numbers(lambda x, at, width: shift_left(sign_extend(cut(x, 0, width), width_of(x)), at)),
+    "bfi": lambda x, y, at, width: replace(x, number_in(at), cut(y, 0, number_in(width))),
+    "bfxil": lambda x, y, at, width: replace(x, 0, cut(y, number_in(at), number_in(width))),
     "extr": lambda x, y, n: cut(join(y, x), known(n, "a place"), width_of(x)),
     "lsl": shifted(shift_left), "lsr": shifted(shift_right), "asr": shifted(shift_signed), "ror": shifted(rotate_right),
     "cinc": lambda x, holds: plus_one(x) if holds else x, "cinv": lambda x, holds: complement(x) if holds else x,
@@ -130,6 +132,7 @@ OPERATIONS = {name: plain(function) for name, function in PLAIN.items()} | {
     "adcs": with_carry(1), "sbcs": with_carry(-1), "adc": without_flags(with_carry(1)), "sbc": without_flags(with_carry(-1)),
 }
 COMPARISONS = "cmp", "cmn", "tst"
+READ_FIRST = *COMPARISONS, "bfi", "bfxil"  # those that read their first operand
 
 
 # ---- vectors: what an instruction does with each lane of its operands but the first, or with them whole
@@ -268,8 +271,6 @@ class Aarch64(Machine):
             self.jump(op, operands)
         elif op in ("paciasp", "autiasp"):
             self.sign(op)
-        elif op in ("bfi", "bfxil"):
-            self.insert_field(op, *operands)
         elif op == "ccmp":
             self.compare_if(*operands)
         elif op[:2] in ("ld", "st"):
@@ -288,7 +289,7 @@ class Aarch64(Machine):
     def compute(self, op, operands):
         width = width_of(self.read(operands[0]))
         own = 32 if op in ("umull", "smull") else width
-        values = [self.read(item, own) for item in operands[op not in COMPARISONS :]]
+        values = [self.read(item, own) for item in operands[op not in READ_FIRST :]]
         if values[-1] in CONDITIONS.values():
             values[-1] = self.condition(values[-1]) if op == "cset" else self.holds(values[-1])
         if op not in OPERATIONS:
@@ -325,11 +326,6 @@ class Aarch64(Machine):
             taken, self.flags = self.holds("e" if op in ("cbz", "tbz") else "ne"), before
         if taken:
             self.next = int(operands[-1], 16)
-
-    def insert_field(self, op, to, source, at, width):
-        at, width = (int(item.strip("#"), 0) for item in (at, width))
-        x, y = self.read(to), self.read(source)
-        self.write(to, replace(x, 0, cut(y, at, width)) if op == "bfxil" else replace(x, at, cut(y, 0, width)))
 
     def compare_if(self, x, y, flags, name):
         """Compares if a condition holds; else the flags N, Z, C, V are these. Of them Z and C are understood."""

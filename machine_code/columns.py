@@ -3,7 +3,7 @@ from functools import partial
 
 from calls import COUNT, OK, XXH64, Call, any_length, arguments_of, check_call, seed, values
 from definitions import as_value
-from loops import Subject, on_each_path, prove_each_rest
+from loops import Subject, prove_each_rest
 from machine import Array, contents
 from values import Stop, add, extend, mul, number, number_in, unknown
 
@@ -48,9 +48,6 @@ class Elements(Subject):
 
     def turned(self, head, done):
         self.must_have_written(head.run, self.index(head.turns, done), self.per)
-
-    def finish(self, loop):
-        on_each_path(lambda: self.end(loop))
 
     def end(self, loop):
         run, _, _, turns = loop.at_end()

@@ -257,14 +257,16 @@ def one_hash(machine, is_insert):
 
 # ---- lengths that no filter has: none, too many blocks, and no multiple of 32. Then nothing is read or written.
 
-def lengths_of_none(machine, name="blocks"):
-    too_many = [join(number(0, 5), unknown(f"too many {name}", 59, 1 << 32))] * (machine.size == 64)
-    return [number(0), *too_many, *(join(number(n, 5), unknown(f"any {name}", 59)) for n in range(1, 32))]
+def lengths_of_none(machine, name="blocks", bits=5):
+    """Each block has 2^5 bytes, and each pair of blocks, of which a fold takes its filter to be, 2^6."""
+    too_many = [join(number(0, bits), unknown(f"too many {name}", 64 - bits, 1 << 37 - bits))] * (machine.size == 64)
+    rests = (join(number(n, bits), unknown(f"any {name}", 64 - bits)) for n in range(1, 1 << bits))
+    return [number(0), *too_many, *rests]
 
 
-def wrong_lengths(machine, function, result):
+def wrong_lengths(machine, function, result, *kind):
     """The other arguments are anything."""
-    for length in lengths_of_none(machine):
+    for length in lengths_of_none(machine, *kind):
         check_call(machine, function, Call, arguments_of(function, length=length), [], result)
 
 
@@ -279,13 +281,6 @@ def merges_of_two_lengths(machine):
         pairs += [(any_length, other), (other, any_length)]
     for length, other in pairs:
         check_call(machine, "bloom_merge", Call, [bits, length, values, other], [], LENGTH)
-
-
-def wrong_folds(machine):
-    """By pairs of blocks: a rest, or too many."""
-    too_many = [join(number(0, 6), unknown("pairs", 58, 1 << 31))] * (machine.size == 64)
-    for length in [number(0), *too_many, *(join(number(rest, 6), unknown("pairs", 58)) for rest in range(1, 64))]:
-        check_call(machine, "bloom_fold", Call, [bits, length], [], LENGTH)
 
 
 # ---- columns of texts. Such a call hashes 32 keys at a time to its stack, in a loop over batches, one over keys and one over
@@ -426,7 +421,7 @@ def checks(machine):
         yield "bloom_merge", partial(prove_each_rest, partial(Merge, machine, is_first))
     yield "bloom_merge", partial(merges_of_two_lengths, machine)
     yield "bloom_fold", partial(prove_each_rest, partial(Fold, machine))
-    yield "bloom_fold", partial(wrong_folds, machine)
+    yield "bloom_fold", partial(wrong_lengths, machine, "bloom_fold", LENGTH, "pairs of blocks", 6)
     wrong_results = {"bloom_check": LENGTH, "bloom_block_offset": number(-1, machine.size), "bloom_fold_to": number(0)}
     for is_insert in (True, False):
         name = bloom_call(is_insert)

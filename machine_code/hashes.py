@@ -5,9 +5,9 @@ import calls
 from calls import (PIECE, WORDS, Call, Memory, arguments_of, check_call, folded_words, input, of, out, saved, seed, some, state,
                    values)
 from definitions import SEED_HASH, XXH64, as_value
-from loops import Subject, on_each_path, prove_each_rest
+from loops import Subject, prove_each_rest
 from machine import Array, contents
-from values import Undecided, add, complement, cut, extend, is_zero, join, mul, number, number_in, unknown
+from values import add, cut, decided, extend, is_zero, join, mul, number, number_in, unknown
 
 
 class Pieces(Subject):
@@ -76,9 +76,6 @@ class OneCall(Pieces):
         else:
             run.must_have(out, answer)
 
-    def finish(self, loop):
-        on_each_path(lambda: self.end(loop))
-
     def end(self, loop):
         run, words, _, turns = loop.at_end()
         self.go_to_end(run, self.after_all(loop, words, turns))
@@ -119,10 +116,7 @@ def number_call():
 def seed_hash_call():
     """With 0 it says that the seed cannot be used, and writes nothing."""
     old, hash = unknown("old", 16), cut(as_value(SEED_HASH.seed_hash(seed)), 0, 16)
-    zero, other = is_zero(hash), complement(is_zero(hash))
-    if number_in(zero) is None:
-        raise Undecided("whether a value is 0", *(({zero: number(n, 1), other: number(1 - n, 1)}, []) for n in (0, 1)))
-    after, status = (old, calls.SEED) if number_in(zero) else (hash, calls.OK)
+    after, status = (old, calls.SEED) if decided(is_zero(hash), "whether a value is 0") else (hash, calls.OK)
     return Call([seed, out], [Memory(out, [old], [after])], status)
 
 

@@ -87,6 +87,15 @@ class Offsets(Subject):
     def suggestion(self, count):
         return self.reach(count, 12)
 
+    def assume(self, head, done, way):
+        if way:
+            self.suppose(way, add(head.turns, number(done)), head.words[0])
+
+    def at_end(self, loop, turns, ways):
+        """At the head with the last turns to do, and what is supposed of the offsets that are left."""
+        run, words, _, _ = loop.at(turns, number(loop.last))
+        return self.supposing(run, ways, add(turns, number(loop.done)), words[0])
+
 
 class Search(Offsets):
     """The loop that looks for the first wrong offset: IsFirstWrongOffset. `start` begins a call in which there is one, and
@@ -120,8 +129,7 @@ class Search(Offsets):
 
     def assume(self, head, done, way):
         assume_at_most(head.words[0], self.call.length)
-        if way:
-            self.suppose(way, add(head.turns, number(done)), head.words[0])
+        super().assume(head, done, way)
 
     def step(self, words, turns, done, way):
         if way != "right":
@@ -149,17 +157,10 @@ class Search(Offsets):
 
     def finish(self, loop):
         """Before the loop, and with its last turns to do."""
-        def begin(ways):
-            return self.supposing(self.start(self.some("total", loop.least)), ways)
-
-        def at_end(ways):
-            run, words, _, _ = loop.at(turns, number(loop.last))
-            return self.supposing(run, ways, first, words[0])
-
-        turns = loop.turns_at_end()
+        total, turns = self.some("total", loop.least), loop.turns_at_end()
+        self.must_notice(lambda ways: self.supposing(self.start(total), ways), number(0), loop.done)
         first = add(turns, number(loop.done))
-        self.must_notice(begin, number(0), loop.done)
-        self.must_notice(at_end, first, loop.last - loop.done, self.last_ways)
+        self.must_notice(partial(self.at_end, loop, turns), first, loop.last - loop.done, self.last_ways)
 
 
 class Ascent(Offsets):
@@ -201,20 +202,8 @@ class Ascent(Offsets):
     def ways(self, begin):
         return ["right"]
 
-    def assume(self, head, done, way):
-        if way:
-            self.suppose(way, add(head.turns, number(done)), head.words[0])
-
     def step(self, words, turns, done, way):
         return [self.call.offset(add(turns, number(done + 1)))]
-
-    def leave(self, head, done, way):
-        raise Stop("a right offset ends the call")
-
-    def at_end(self, loop, turns, ways):
-        """At the head with the last turns to do, and what is supposed of the offsets that are left."""
-        run, words, _, _ = loop.at(turns, number(loop.last))
-        return self.supposing(run, ways, add(turns, number(loop.done)), words[0])
 
     def finish(self, loop):
         """If one falls: before the loop, in any turn, or behind the last ones; and if the last one is above the length."""

@@ -54,10 +54,16 @@ SECTIONS = {0, 1, TABLE, 3, 4, 7, 8, 14, 17, 0x6FFF4C03, 0x70000001, 0x70000003}
 IN_MEMORY = re.compile(r"\.(text|rodata|data|bss|eh_frame|init_array|note)(\..*)?")
 
 
+def declarations_of(header):
+    """Of each function that a header declares the type of its result, and the text of its parameters."""
+    declared = re.findall(r"(\w+) sketch_(\w+)\(([^;{}]*)\);", re.sub(r"/\*.*?\*/", "", header, flags=re.S))
+    return {name: (result, text) for result, name, text in declared}
+
+
 def parameters_of(header):
-    """The names of the parameters of each function that a header declares."""
-    declared = re.findall(r"\bsketch_(\w+)\(([^;{}]*)\);", re.sub(r"/\*.*?\*/", "", header, flags=re.S))
-    return {name: re.findall(r"(?!void$)(\b\w+)\)?(?:\[\d+\])?(?:,|$)", text) for name, text in declared}
+    """The names of the parameters of each function."""
+    return {name: re.findall(r"(?!void$)(\b\w+)\)?(?:\[\d+\])?(?:,|$)", text)
+            for name, (_, text) in declarations_of(header).items()}
 
 
 PARAMETERS = parameters_of(HEADER)

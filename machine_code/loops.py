@@ -147,6 +147,10 @@ class Subject(Fixed):
         """What must be so if a turn ends the call."""
         raise Stop("the loop ends before its last turn")
 
+    def finish(self, loop):
+        """Shows the rest of the call, from the head with the last turns to do."""
+        on_each_path(lambda: self.end(loop))
+
 
 class Loop(Fixed):
     """A loop of a subject. `least` is the fewest turns of the calls that reach it; with `last` turns left it ends. A late head

@@ -5,9 +5,9 @@ import pathlib
 
 import values
 from library import PARAMETERS
-from values import (Stop, Undecided, add, are_equal, bitwise, complement, cut, extend, facts, gap_of, greatest, is_below,
-                    is_not_negative, is_zero, join, known, linear, must_equal, number, number_in, power_of_two, repeat,
-                    shift_left, sign_extend, signed, sub, total, unknown, unknowns_in, width_of)
+from values import (Stop, Undecided, add, are_equal, bitwise, complement, cut, decided, extend, facts, gap_of, greatest,
+                    is_below, is_not_negative, is_zero, join, known, linear, must_equal, number, number_in, power_of_two,
+                    repeat, shift_left, sign_extend, signed, sub, total, unknown, unknowns_in, width_of)
 
 IMAGE = extend(join(number(0, 12), unknown("image", 50, 1)))  # where the library is
 CALLER = extend(unknown("caller", 62, 1))  # where a call returns to
@@ -131,15 +131,12 @@ class Array:
             return offset
         return None
 
-    def must_not_overlap(self, offset, size):
-        """What is written at offsets that are made of other unknowns is elsewhere."""
-        own = place_of(offset)[0]
-        others = {base: [at for other, at in self.written if other == base] for base, _ in self.written if base != own}
-        for base, places in others.items():
-            start = add(of_place(base, min(places)), number(0))
-            after = gap_of(add(start, number(max(places) - min(places) + 1)), offset)
-            before = gap_of(add(offset, number(size)), start)
-            if not (after and is_not_negative(*after) or before and is_not_negative(*before)):
+    def must_not_overlap(self, offset):
+        """What is written at offsets that are made of other unknowns is before it."""
+        for base in {base for base, _ in self.written} - {place_of(offset)[0]}:
+            last = max(at for other, at in self.written if other == base)
+            after = gap_of(add(total(last, dict(base)), number(1)), offset)
+            if not (after and is_not_negative(*after)):
                 raise Stop("an access that perhaps overlaps what the call has written")
 
     def begin_at(self, offset):
@@ -147,13 +144,13 @@ class Array:
         self.first, self.written = offset, {}
 
     def load(self, offset, size):
-        self.must_not_overlap(offset, size)
+        self.must_not_overlap(offset)
         base, at = place_of(offset)
         before = contents(self.name, offset, size)
         return [self.written.get((base, at + i)) or (before[i], 0) for i in range(size)]
 
     def store(self, offset, value):
-        self.must_not_overlap(offset, width_of(value) // 8)
+        self.must_not_overlap(offset)
         base, at = place_of(offset)
         self.written |= {(base, at + i): (value, 8 * i) for i in range(width_of(value) // 8)}
 
@@ -166,11 +163,6 @@ class Array:
             must_equal(cut(found, start, 8), cut(value, bit, 8), "what is written")
         if self.written.keys() - {(base, at + i) for i in range(len(expected))}:
             raise Stop("more is written than must be")
-
-
-def of_place(base, n):
-    """The inverse of `place_of`."""
-    return total(n, dict(base))
 
 
 class Machine:
@@ -359,7 +351,7 @@ class Machine:
             return (self.holds("l") or self.holds("e")) == (name == "le")
         bit = self.condition(name)
         if number_in(bit) is None and name in ("s", "ns", "l", "ge"):
-            raise Undecided("a sign", *(({self.condition("s"): number(n, 1)}, []) for n in (0, 1)))
+            decided(self.condition("s"), "a sign")
         if number_in(bit) is None and name in ("e", "ne"):
             zero, value, yes, no = self.condition("e"), self.flags[3], number(1, 1), number(0, 1)
             raise Undecided("whether a value is 0", ({zero: yes, complement(zero): no, value: number(0)}, []),

@@ -425,8 +425,12 @@ def test_a_store_is_within_what_may_be_written(give, offset, reason, machine_of)
     (sub(N, number(8)), 9, False), (N, 1, False), (extend(unknown("any", 41)), 1, False),
 ])
 def test_an_access_is_within_an_array(offset, size, is_within):
+    """Also behind what is finished."""
     assert (array().offset_of(add(calls.out, offset), size) is not None) == is_within
     assert array().offset_of(add(calls.input, offset), size) is None
+    finished = array()
+    finished.begin_at(add(offset, number(1)))
+    assert finished.offset_of(add(calls.out, offset), size) is None
 
 
 @pytest.mark.parametrize("values, reason", [
@@ -450,12 +454,6 @@ def test_accesses_that_perhaps_overlap_are_refused():
             written.load(offset, 2)
         with refused("overlaps"):
             written.store(offset, unknown("two", 16))
-
-
-def test_what_is_finished_is_not_accessed_again():
-    written = array()
-    written.begin_at(number(8))
-    assert written.offset_of(add(calls.out, number(8)), 8) and written.offset_of(add(calls.out, number(7)), 8) is None
 
 
 # ---- calls that write memory, and loops
@@ -549,8 +547,7 @@ def texts(machine, is_insert):
     return filters.TextsCall(machine, is_insert, 64)
 
 
-DECLARED = {name: (result, parameters) for result, name, parameters in re.findall(
-    r"SKETCH_HASH_API (\w+) sketch_(\w+)\(([^;{}]*)\);", re.sub(r"/\*.*?\*/", "", library.HEADER, flags=re.S))}
+DECLARED = library.declarations_of(library.HEADER)
 
 
 def wrong_if(condition, *functions):

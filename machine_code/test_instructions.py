@@ -57,7 +57,7 @@ def x86_forms(has_512):
         one, two, three = WIDTHS[width]
         memory = at(width)
         operands = [one, memory, f"{one},{two}", f"{one},{memory}", f"{memory},{two}", f"{one},{one}", f"{one},{two},{three}",
-                    f"{two},{memory},{three}", f"{one},{memory}"]
+                    f"{two},{memory},{three}"]
         starts = one, memory, f"{one},{two}", f"{memory},{two}"
         operands += [f"{start},{n}" for start in starts for n in (*numbers, "cl", "-3")]
         operands += [f"{one},{other}" for less in WIDTHS for other in (WIDTHS[less][1], at(less))]
@@ -170,7 +170,7 @@ SHAPES = "8b", "16b", "4h", "8h", "2s", "4s", "2d"
 def aarch64_forms():
     numbers = "#0", "#1", "#5", "#12", "#31", "#63"
     operations = aarch64.OPERATIONS.keys() - {"adr", "adrp"}
-    for op, kind in itertools.product([*sorted(operations), "bfi", "bfxil", "ccmp", "movk"], "xw"):
+    for op, kind in itertools.product([*sorted(operations), "ccmp", "movk"], "xw"):
         one, two, three, four = (f"{kind}{n}" for n in (1, 2, 3, 4))
         operands = [f"{one},{two}", f"{one},{two},{three}", f"{one},{two},{three},{four}", f"{one},{two},sp", "x1,w2,w3",
                     "x1,w2,w3,x4", "x1,w2", f"{one},{two},{three},lsl #3", f"{one},{two},{three},lsr #7",

@@ -80,7 +80,7 @@ def test_a_rule_gives_an_equal_value():
 
 
 def test_what_bounds_imply_is_so():
-    """Of three small numbers: whatever is decided holds for all of them that keep the bounds."""
+    """Of three small numbers: whatever is decided holds for all of them that keep the bounds, and some must."""
     pick, small = random.Random(2), [extend(unknown(("small", i), 3)) for i in range(3)]
     all_numbers, decided = list(itertools.product(range(8), repeat=3)), 0
     for _ in range(1500):
@@ -135,14 +135,6 @@ def test_a_case_has_one_call_and_is_alone(misuse):
     assert (values.stage, values.assumed, values.promised, values.bounds, values.facts) == (None, (), (), [], {})
 
 
-def test_assumptions_that_contradict_each_other_are_noticed():
-    x, y, z = (extend(unknown(name, 40)) for name in ("first", "second", "third"))
-    for pairs, is_possible in ([(x, y), (y, z)], True), ([(x, y), (y, z), (z, x)], False), ([(x, x)], False):
-        with contextlib.nullcontext() if is_possible else pytest.raises(Stop, match="no numbers"), values.case():
-            for pair in pairs:
-                values.assume_at_most(*pair, 1)
-
-
 def test_an_input_for_which_two_values_differ_is_found():
     """Also if they differ for one number alone, and only where a path goes."""
     x, y = unknown("one", 64), unknown("two", 64)
@@ -165,12 +157,6 @@ def test_a_sum_that_is_a_number_says_what_its_pieces_are():
     with values.case(({cut(whole, 0, 32): number(5, 32)}, [])):
         assert add(x, mul(y, number(3))) == more
     assert add(x, mul(y, number(3))) == more
-
-
-def test_a_rotation_by_each_number_of_bits():
-    x, word = unknown("rotated", 64), 0x123456789ABCDEF1
-    for n in range(64):
-        assert number_of(rotate_right(x, n), {x[0][0]: word}, None) == (word << 64 | word) >> n & WORD - 1
 
 
 def test_vectors_of_different_lengths_have_no_lanes():

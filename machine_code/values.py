@@ -15,7 +15,6 @@ NUMBER = -1
 WORD = 1 << 64
 BITS = {"and": lambda x, y: x & y, "or": lambda x, y: x | y, "xor": lambda x, y: x ^ y}
 kinds, ranges, indices = [], [], {}  # of each atom: what it is made of, its least and greatest value; and its index
-made = set()  # the unknowns that are functions of other values
 assumed, promised = (), ()  # what the present case assumes: pairs of the next two, and bounds. The next five follow from it
 facts = {}  # values, and what they equal
 equations = []  # what those that are sums say of a piece of each: that it equals a number and pieces with factors
@@ -128,10 +127,7 @@ def atom(kind, width, least=0, most=None):
 
 
 def unknown(name, width, least=0):
-    value = atom(("unknown", name, width, least), width, least) if width else ()
-    if name[0] in MADE:
-        made.add(value[0][0])
-    return value
+    return atom(("unknown", name, width, least), width, least) if width else ()
 
 
 def atoms_in(value):
@@ -165,6 +161,14 @@ def known(value, what):
     if n is None:
         raise Stop(f"{what} depends on an unknown")
     return n
+
+
+def decided(bit, what):
+    """The number that a bit is. If it depends on an unknown, there is a path for either."""
+    bit = facts.get(bit, bit)
+    if number_in(bit) is None:
+        raise Undecided(what, *(({bit: number(n, 1), complement(bit): number(1 - n, 1)}, []) for n in (0, 1)))
+    return number_in(bit)
 
 
 def width_of(value):
@@ -600,6 +604,11 @@ def is_zero(value):
 MADE = {"high": lambda width, x, y: x * y >> width, "quotient": lambda width, x, y: x // y if y else 0}
 
 
+def is_free(a):
+    """Whether an atom is an unknown that may be any number."""
+    return kinds[a][0] == "unknown" and kinds[a][1][0] not in MADE
+
+
 def number_of(value, world, choose):
     result = at = 0
     for a, low, width in value:
@@ -612,7 +621,7 @@ def number_of(value, world, choose):
 
 def number_of_atom(a, world, choose):
     kind, *parts = kinds[a]
-    if kind == "unknown" and a not in made:
+    if is_free(a):
         return choose(*ranges[a])
     if kind == "sum":
         return sum_of(parts[0], dict(parts[1]), world, choose) % WORD
@@ -659,7 +668,7 @@ class Search:
         self.world = dict(self.given)
         wrong = [bound for bound in self.bounds if self.sum_of(*bound) < 0]
         others = [(value, answer) for value, answer in self.facts.items() if not self.is_kept(value, answer)]
-        self.given = {a: n for a, n in self.world.items() if kinds[a][0] == "unknown" and a not in made}
+        self.given = {a: n for a, n in self.world.items() if is_free(a)}
         if wrong:
             self.mend(*self.pick.choice(wrong))
         for value, answer in others:

@@ -7,12 +7,12 @@ import functools
 import itertools
 import re
 
-from library import HEADER
+from library import HEADER, declarations_of
 from machine import CALLER, STACK, Machine, fill, move, on_numbers, shift_one
 from module import COMPARISONS, NUMERIC
-from values import (NUMBER, Stop, Undecided, add, are_equal, assume_at_most, bitwise, collect, complement, cut, exact, extend,
-                    facts, greatest, is_below, is_not_negative, is_zero, join, kinds, known, limits, linear, mul, number,
-                    number_in, ranges, rotate_right, shift_right, sign_extend, sub, total, unknown, width_of)
+from values import (NUMBER, Stop, add, are_equal, assume_at_most, bitwise, collect, complement, cut, decided, exact, extend,
+                    greatest, is_below, is_not_negative, is_zero, join, kinds, known, limits, linear, mul, number, number_in,
+                    ranges, rotate_right, shift_right, sign_extend, sub, total, unknown, width_of)
 
 HALF = 1 << 32
 
@@ -85,16 +85,8 @@ def divisor(n):
     return n
 
 
-def sign(width, x):
-    bit = cut(x, width - 1, 1)
-    bit = facts.get(bit, bit)
-    if number_in(bit) is None:
-        raise Undecided("a sign", *(({bit: number(n, 1)}, []) for n in (0, 1)))
-    return number_in(bit)
-
-
 def signed_below(width, x, y):
-    signs = [sign(width, item) for item in (x, y)]
+    signs = [decided(cut(item, width - 1, 1), "a sign") for item in (x, y)]
     return is_below(x, y) if signs[0] == signs[1] else bool(signs[0])
 
 
@@ -188,14 +180,10 @@ def operation_of(name):
 OPERATIONS = {name: operation_of(name) for name in NUMERIC.values() if {name[4:]} & {*ANY_BITS, *EXACT}}
 
 
-def types_of(header):
-    """The widths of the parameters of each function that a header declares, and of its result."""
-    declared = re.findall(r"(\w+) sketch_(\w+)\(([^;{}]*)\);", re.sub(r"/\*.*?\*/", "", header, flags=re.S))
-    return {name: ([64 if re.fullmatch(r"\s*uint64_t \w+", item) else 32 for item in text.split(",") if item != "void"],
-                   [64 if result == "uint64_t" else 32] * (result != "void")) for result, name, text in declared}
-
-
-TYPES = types_of(HEADER)
+# The widths of the parameters of each function of the header, and of its result.
+TYPES = {name: ([64 if re.fullmatch(r"\s*uint64_t \w+", item) else 32 for item in text.split(",") if item != "void"],
+                [64 if result == "uint64_t" else 32] * (result != "void"))
+         for name, (result, text) in declarations_of(HEADER).items()}
 
 
 class Wasm(Machine):

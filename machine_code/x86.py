@@ -4,9 +4,9 @@ import itertools
 import re
 
 from machine import CALLER, IMAGE, Machine, count_of, forms_of, if_equal, logic, plain, reads, shift_one, shifted
-from values import (BITS, Stop, Undecided, add, bitwise, complement, cut, extend, is_below, is_zero, join, kinds,
-                    known, lanes, mul, number, number_in, repeat, replace, rotate_right, shift_left, shift_right, shift_signed,
-                    sign_extend, signed, sub, unknown, width_of)
+from values import (BITS, Stop, add, bitwise, complement, cut, decided, extend, is_below, is_zero, join, known, lanes, mul,
+                    number, number_in, repeat, replace, rotate_right, shift_left, shift_right, shift_signed, sign_extend,
+                    signed, sub, unknown, width_of)
 
 REGISTERS = {f"r{n}{end}": (f"r{n}", width) for n in range(8, 16) for end, width in (("", 64), ("d", 32), ("w", 16), ("b", 8))}
 for item in "ax bx cx dx si di bp sp".split():
@@ -438,14 +438,14 @@ class X86(Machine):
     def address(self, terms):
         at = number(0)
         for name, factor in terms:
-            value = self.registers[name] if name in REGISTERS else self.place(name)
+            if name in REGISTERS:
+                value = self.registers[name]
+            elif name == "rip":
+                value = add(IMAGE, number(self.next))
+            else:
+                value = self.guard if name == "guard" else number(int(name, 16))
             at = add(at, mul(value, number(factor)))
         return at
-
-    def place(self, name):
-        if name == "guard":
-            return self.guard
-        return add(IMAGE, number(self.next)) if name == "rip" else number(int(name, 16))
 
     def read(self, operand, width):
         kind, what, own, _ = operand
@@ -471,15 +471,8 @@ class X86(Machine):
     def masked(self, name, operand, value, width):
         """Lanes whose bit is not set stay, or are cleared."""
         size, bits, before = MASKED[name], self.registers[operand[3][0]], self.read(operand, width)
-        return join(*(cut(value, at, size) if self.is_set(cut(bits, at // size, 1)) else number(0, size)
+        return join(*(cut(value, at, size) if decided(cut(bits, at // size, 1), "a mask") else number(0, size)
                       if "z" in operand[3] else cut(before, at, size) for at in range(0, operand[2], size)))
-
-    @staticmethod
-    def is_set(bit):
-        if number_in(bit) is not None:
-            return number_in(bit)
-        zero = bit if kinds[bit[0][0]][0] == "is zero" else complement(bit)
-        raise Undecided("a mask", *(({zero: number(n, 1)}, []) for n in (0, 1)))
 
     # ---- instructions
 
@@ -488,10 +481,12 @@ class X86(Machine):
         run(self, *details)
 
     def operate(self, name, operands, used, width, is_avx, is_aligned, is_avx2):
-        if is_aligned:
-            self.must_be_aligned_vectors(operands)
-        if is_avx2 and self.library.constructors:
-            self.must_have_avx2()
+        for kind, what, size, _ in operands if is_aligned else ():
+            if kind == "memory" and size and size > 64:
+                self.must_be_aligned(self.address(what), size // 8)
+        # If constructors set a flag, code for AVX2 runs only where the flag is 1.
+        if is_avx2 and self.library.flags and not any(self.library.setting.values()):
+            raise Stop("an instruction of AVX2 where the processor perhaps has none")
         values = [item[1] if is_int else self.read(item, width) for item, is_int in used]
         result = OPERATIONS[name](self, *values)
         if name == "and" and operands[0][1] == "rsp" and number_in(values[1]) is not None:
@@ -500,16 +495,6 @@ class X86(Machine):
             if operands[0][3]:
                 result = self.masked(name, operands[0], result, width)
             self.write(operands[0], result, is_avx)
-
-    def must_have_avx2(self):
-        """If constructors set a flag, code for AVX2 runs only where the flag is 1."""
-        if self.library.flags and not any(self.library.setting.values()):
-            raise Stop("an instruction of AVX2 where the processor perhaps has none")
-
-    def must_be_aligned_vectors(self, operands):
-        for kind, what, size, _ in operands:
-            if kind == "memory" and size and size > 64:
-                self.must_be_aligned(self.address(what), size // 8)
 
     def choose(self, op, text):
         """`set..` and `cmov..`."""
