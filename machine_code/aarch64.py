@@ -3,7 +3,7 @@ import functools
 import re
 
 from machine import CALLER, IMAGE, Machine, external, forms_of, if_equal, logic, on_numbers, place_of, plain, shift_one, shifted
-from values import (Stop, add, bitwise, complement, cut, extend, is_zero, join, kinds, known, lanes, mul, number, number_in,
+from values import (Stop, add, bitwise, complement, cut, extend, join, kinds, known, lanes, mul, number, number_in,
                     repeat, replace, rotate_right, shift_left, shift_right, shift_signed, sign_extend, sub, unknown, width_of)
 
 CONDITIONS = {"eq": "e", "ne": "ne", "cc": "b", "cs": "ae", "hi": "a", "ls": "be", "mi": "s", "pl": "ns", "lt": "l", "ge": "ge",
@@ -67,19 +67,13 @@ def plus_one(x):
     return add(x, number(1, width_of(x)))
 
 
-def with_carry(sign):
-    """The carry of a subtraction is the opposite of x86-64's. Of numbers that are known it sets conditions too."""
-    def run(m, x, y):
-        carry = Machine.condition(m, "b" if m.flags[0] == "add" else "ae")
-        y = y if sign > 0 else complement(y)
-        result, numbers = add(add(x, y), extend(carry, width_of(x))), [number_in(item) for item in (x, y, carry)]
-        if None not in numbers:
-            m.compare("bits", is_zero(result), number(sum(numbers) >> width_of(x) == 0, 1), None)
-        else:
-            m.compare(None, x, y, None)
-        return result
+def subtract_with_carry(m, x, y):
+    return m.with_carry(x, y, m.condition("b"), -1)
 
-    return run
+
+def add_with_carry(m, x, y):
+    """As a difference to the complement: the carry of a difference is the opposite of x86-64's."""
+    return subtract_with_carry(m, x, complement(y))
 
 
 def without_flags(run):
@@ -129,7 +123,8 @@ OPERATIONS = {name: plain(function) for name, function in PLAIN.items()} | {
     "adds": Machine.sum, "subs": Machine.subtract, "cmp": Machine.subtract, "cmn": Machine.sum, "ands": logic("and"),
     "tst": logic("and"), "negs": lambda m, x: m.subtract(number(0, width_of(x)), x),
     "bics": lambda m, x, y: logic("and")(m, x, complement(y)),
-    "adcs": with_carry(1), "sbcs": with_carry(-1), "adc": without_flags(with_carry(1)), "sbc": without_flags(with_carry(-1)),
+    "adcs": add_with_carry, "adc": without_flags(add_with_carry),
+    "sbcs": subtract_with_carry, "sbc": without_flags(subtract_with_carry),
 }
 COMPARISONS = "cmp", "cmn", "tst"
 READ_FIRST = *COMPARISONS, "bfi", "bfxil"  # those that read their first operand

@@ -23,10 +23,7 @@ def machine_of(built):
     """What makes a machine for each call of a library, once its constructors have run."""
     kind = MACHINES[built.processor]
     built.flags = loading.flags_of(kind, built)
-
-    def machine():
-        return kind(built)
-
+    machine = partial(kind, built)
     machine.size, machine.library = kind.size, built
     return machine
 

@@ -183,14 +183,17 @@ class Values(Elements):
 
 
 class SingleKey(OneCall):
-    """A key of any length that is inserted or looked up, in a filter of any length."""
+    """A key of any length that is inserted or looked up, in a filter of any length. With a wrong length, which no filter has,
+    the key may be read, and the filter not."""
 
-    def __init__(self, machine, is_insert, rest, per, **others):
-        super().__init__(machine, "xxh64", rest, per, of("xxh64", "start")(0), is_insert=is_insert, **others)
+    def __init__(self, machine, is_insert, rest, per, wrong_length=None, **others):
+        super().__init__(machine, "xxh64", rest, per, of("xxh64", "start")(0), is_insert=is_insert, wrong_length=wrong_length,
+                         **others)
 
     def begin_call(self, run, n):
-        run.filter = run.give(FilterBlocks(lambda index: run.answer, self.is_insert))
-        run.begin(bloom_call(self.is_insert), [bits, any_length, input, n])
+        if not self.wrong_length:
+            run.filter = run.give(FilterBlocks(lambda index: run.answer, self.is_insert))
+        run.begin(bloom_call(self.is_insert), [bits, self.wrong_length or any_length, input, n])
         return run
 
     def go_to_end(self, run, after):
@@ -199,22 +202,10 @@ class SingleKey(OneCall):
         self.must_leave(run)
 
     def must_leave(self, run):
-        must_have_used(run, self.is_insert)
-
-
-class KeyOfWrongLength(SingleKey):
-    """The same with a length that no filter has: the key may be read, and the filter not."""
-
-    def __init__(self, machine, is_insert, length, rest, per):
-        super().__init__(machine, is_insert, rest, per, wrong_length=length)
-
-    def begin_call(self, run, n):
-        run.begin(bloom_call(self.is_insert), [bits, self.wrong_length, input, n])
-        return run
-
-    def go_to_end(self, run, after):
-        run.go()
-        run.must_return(wrong_result(self.is_insert))
+        if self.wrong_length:
+            run.must_return(wrong_result(self.is_insert))
+        else:
+            must_have_used(run, self.is_insert)
 
 
 def must_have_used(run, is_insert):
@@ -231,9 +222,9 @@ def wrong_result(is_insert):
 
 
 def keys_of_wrong_lengths(machine, is_insert):
-    prove_each_rest(partial(KeyOfWrongLength, machine, is_insert, number(33)), 32)
+    prove_each_rest(partial(SingleKey, machine, is_insert, wrong_length=number(33)), 32)
     for length, n in itertools.product(lengths_of_none(machine), (0, 7, 40)):
-        loops.on_each_path(KeyOfWrongLength(machine, is_insert, length, number(n), 1).few)
+        loops.on_each_path(SingleKey(machine, is_insert, number(n), 1, length).few)
 
 
 any_hash = unknown("hash", 64)

@@ -296,11 +296,11 @@ class Loop(Fixed):
 
     def check_turns(self):
         """A place that is not as suggested is anything. Then all turns are checked anew."""
-        while wrong := next(filter(None, map(self.wrong_places, self.subject.ways(self.in_turn))), None):
-            vars(self).update(roles=self.roles | dict.fromkeys(wrong))
+        def wrong_places(way):
+            return set().union(*on_each_path(lambda: self.turn(way)))
 
-    def wrong_places(self, way):
-        return set().union(*on_each_path(lambda: self.turn(way)))
+        while wrong := next(filter(None, map(wrong_places, self.subject.ways(self.in_turn))), None):
+            vars(self).update(roles=self.roles | dict.fromkeys(wrong))
 
 
 def first_shown(attempts):

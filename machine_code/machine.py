@@ -364,6 +364,16 @@ class Machine:
     def sum(self, x, y):
         return self.compare("add", x, y, add(x, y))
 
+    def with_carry(self, x, y, carry, sign):
+        """The sum of two numbers and a carry, or their difference. If all are known it sets conditions."""
+        result = add(add(x, y, sign), extend(carry, width_of(x)), sign)
+        numbers = [number_in(item) for item in (x, y, carry)]
+        if None in numbers:
+            return self.compare(None, x, y, result)
+        whole = numbers[0] + sign * (numbers[1] + numbers[2])
+        self.compare("bits", is_zero(result), number(not 0 <= whole < 1 << width_of(x), 1), None)
+        return result
+
     # ---- a run
 
     def begin(self, function, arguments):
@@ -471,18 +481,19 @@ def copy(machine, to, source, size, *_):
     return move(machine, to, source, size)
 
 
-def move(machine, to, source, size, *_):
-    n = known(size, "the size of a copy")
-    if n:
-        machine.store(to, machine.load(source, n))
-    return to
+def storing(value_of):
+    """A function that stores a value of so many bytes, which it makes of its second argument."""
+    def run(machine, to, what, size, *_):
+        n = known(size, "the size of a copy")
+        if n:
+            machine.store(to, value_of(machine, what, n))
+        return to
+
+    return run
 
 
-def fill(machine, to, byte, size, *_):
-    n = known(size, "the size of a copy")
-    if n:
-        machine.store(to, repeat(cut(byte, 0, 8), n))
-    return to
+move = storing(Machine.load)
+fill = storing(lambda machine, byte, n: repeat(cut(byte, 0, 8), n))
 
 
 def with_size(function):

@@ -456,27 +456,7 @@ def test_accesses_that_perhaps_overlap_are_refused():
             written.store(offset, unknown("two", 16))
 
 
-# ---- calls that write memory, and loops
-
-COPY_HASH = """.globl sketch_murmur3_x64_128_bytes; sketch_murmur3_x64_128_bytes:
-mov rax, [rdi]; mov [rsi], rax; mov rcx, [rdi+8]; mov [rsi+8], rcx; ret"""
-RESET = """.globl sketch_murmur3_x64_128_reset; sketch_murmur3_x64_128_reset:
-mov [rdi], rsi; mov [rdi+8], rsi; xor eax, eax; mov [rdi+16], rax; mov [rdi+24], rax; mov [rdi+32], rax; ret"""
-
-
-@pytest.mark.parametrize("code, before, after, reason", [
-    (COPY_HASH, "ud2", "ud2", None), (COPY_HASH, "mov [rsi+8], rcx", "", "what is written"),
-    (COPY_HASH, "ret", "mov [rdi], rcx; ret", "outside"), (COPY_HASH, "ret", "mov [rsi+16], rcx; ret", "outside"),
-    (RESET, "ud2", "ud2", None), (RESET, "mov [rdi+32], rax", "", "what is written"),
-])
-def test_a_call_that_writes_other_bytes_is_refused(code, before, after, reason, machine_of):
-    machine = machine_of("x86-64", others=code.replace(before, after))
-    with refused(reason):
-        if code == RESET:
-            calls.check_call(machine, "murmur3_x64_128_reset", hashes.reset, "murmur")
-        else:
-            calls.check_call(machine, "murmur3_x64_128_bytes", hashes.bytes_call)
-
+# ---- loops
 
 UNION = """movdqu xmm0, [rdx+rax]; movdqu xmm1, [rdi+rax]; por xmm0, xmm1; movdqu [rdi+rax], xmm0
 movdqu xmm0, [rdx+rax+16]; movdqu xmm1, [rdi+rax+16]; por xmm0, xmm1; movdqu [rdi+rax+16], xmm0; add rax, 32"""
@@ -605,26 +585,33 @@ REFUSED = [
 
 @pytest.fixture(scope="module")
 def wrong_library(need, tmp_path_factory):
+    """For few arguments, or beyond a bound."""
     need("gcc")
-    return built_of(WRONG, tmp_path_factory.mktemp("wrong"))
+    return functools.cache(lambda limit=None: built_of(
+        WRONG if limit is None else wrong_if(f"> 1ull << {limit}"), tmp_path_factory.mktemp("wrong")))
 
 
 @pytest.mark.parametrize("run", REFUSED)
 def test_a_call_that_is_wrong_for_few_arguments_is_refused(run, wrong_library):
-    machine = checks.machine_of(wrong_library)
+    machine = checks.machine_of(wrong_library())
     with pytest.raises(Stop):
-        checks.on_each_setting(wrong_library, partial(run, machine))
+        checks.on_each_setting(machine.library, partial(run, machine))
 
 
-@pytest.mark.parametrize("body, reason", [
-    ("seed++; return RIGHT;", "not what the definitions say"), ("hash[1] = 0; return RIGHT;", "outside"),
-    ("if (RIGHT != 0) *hash = 0; return 0;", "not what the definitions say"),
+SEED_HASH, BYTES = ("seed_hash", hashes.seed_hash_call), ("murmur3_x64_128_bytes", hashes.bytes_call)
+
+
+@pytest.mark.parametrize("function, call, body, reason", [
+    (*SEED_HASH, "seed++; return RIGHT;", "definitions"), (*SEED_HASH, "hash[1] = 0; return RIGHT;", "outside"),
+    (*SEED_HASH, "if (RIGHT != 0) *hash = 0; return 0;", "definitions"), (*BYTES, "RIGHT; out[8] = 0;", "what is written"),
+    (*BYTES, "RIGHT; *(char *)hash = 0;", "outside"), (*BYTES, "RIGHT; out[16] = 0;", "outside"),
+    ("murmur3_x64_128_reset", partial(hashes.reset, "murmur"), "RIGHT; state->waiting[15] = 1;", "what is written"),
 ])
-def test_a_wrong_seed_hash_is_refused(body, reason, need, tmp_path):
+def test_a_call_that_writes_other_bytes_is_refused(function, call, body, reason, need, tmp_path):
     need("gcc")
-    machine = checks.machine_of(built_of({"seed_hash": body}, tmp_path))
+    machine = checks.machine_of(built_of({function: body}, tmp_path))
     with refused(reason):
-        calls.check_call(machine, "seed_hash", hashes.seed_hash_call)
+        calls.check_call(machine, function, call)
 
 
 # ---- a library whose calls are wrong for very many elements alone: no attempt may leave its bounds to the next one
@@ -643,16 +630,10 @@ def late_loops(m):
                    for is_insert in (True, False) for width in keys.MOST]
 
 
-@pytest.fixture(scope="module")
-def late_library(need, tmp_path_factory):
-    need("gcc")
-    return functools.cache(lambda limit: built_of(wrong_if(f"> 1ull << {limit}"), tmp_path_factory.mktemp("late")))
-
-
 @pytest.mark.parametrize("i", range(len(late_loops(None))))
 @pytest.mark.parametrize("limit", [25, 33, 35])
-def test_a_loop_that_is_wrong_beyond_a_bound_is_refused(limit, i, late_library):
-    built = late_library(limit)
+def test_a_loop_that_is_wrong_beyond_a_bound_is_refused(limit, i, wrong_library):
+    built = wrong_library(limit)
     with refused("the result is not|what is written is not"):
         checks.on_each_setting(built, late_loops(checks.machine_of(built))[i])
 

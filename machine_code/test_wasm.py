@@ -151,16 +151,6 @@ def test_a_number_that_i32_does_not_hold_is_refused():
             wasm.assume_half(extend(value))
 
 
-def test_the_upper_bits_of_a_product_are_below_one_factor():
-    length, hash = extend(unknown("length", 32, 1)), extend(unknown("hash", 32))
-    with values.case():
-        index = shift_right(mul(length, hash), 32)
-        wasm.know_product(index[0])
-        assert values.is_below(index, length)
-        with pytest.raises(values.Undecided):
-            values.is_below(add(index, number(1)), length)
-
-
 def test_a_comparison_of_a_comparison_is_followed():
     """`eqz` of it is the opposite, and `ne` to 0 the same."""
     x, y, *results = (extend(unknown(("compared", i), 1)) for i in range(6))

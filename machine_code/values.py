@@ -64,7 +64,8 @@ def case(*ways):
     try:
         assume(ways)
         yield
-        must_be_possible()
+        if promised and Search(promised, {}).run() is None:  # of its choices one holds in any case
+            raise Stop("no numbers are known that keep what a case assumes")
     except Differs as stop:
         if stage == "call":
             stop.input = input_of(stop.pair)
@@ -709,12 +710,6 @@ class Search:
                 for piece, factor in [pair for pair in parts[1] if pair[1] % 2][:1]:
                     gap = (bits - self.sum_of(parts[0], dict(parts[1]))) * pow(factor, -1, WORD)
                     self.force((piece,), self.number_of((piece,)) + gap & (1 << piece[2]) - 1)
-
-
-def must_be_possible():
-    """What a case assumes, but for its choices, of which one holds in any case."""
-    if promised and Search(promised, {}).run() is None:
-        raise Stop("no numbers are known that keep what a case assumes")
 
 
 def input_of(pair):

@@ -130,10 +130,6 @@ def bit_by_bit(op):
     return run
 
 
-def signed_part(size):
-    return lambda width, x: sign_extend(cut(x, 0, size), 64)
-
-
 def of_any_width(function):
     return lambda width, *operands: function(*operands)
 
@@ -153,7 +149,8 @@ ANY_BITS = {
     "rotl": lambda width, x, n: extend(rotate_right(cut(x, 0, width), -count_in(width, n) % width)),
     "rotr": lambda width, x, n: extend(rotate_right(cut(x, 0, width), count_in(width, n))),
     "shr_s": lambda width, x, n: sign_extend(cut(x, count_in(width, n), width - count_in(width, n)), 64),
-    **{f"extend{size}_s": signed_part(size) for size in (8, 16, 32)}, "extend_i32_s": signed_part(32),
+    **{f"extend{name}_s": lambda width, x, size=size: sign_extend(cut(x, 0, size), 64)
+       for name, size in (("8", 8), ("16", 16), ("32", 32), ("_i32", 32))},
 }
 EXACT = {
     "eqz": lambda width, x: extend(is_zero(x)), "eq": lambda width, x, y: extend(are_equal(x, y)),

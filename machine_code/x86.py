@@ -91,21 +91,6 @@ def step(sign):
     return lambda m, x: m.compare("other", x, None, add(x, number(1, width_of(x)), sign))
 
 
-def with_carry(sign):
-    """Of numbers that are known it sets conditions too."""
-    def run(m, x, y):
-        carry = m.condition("b")
-        result = add(add(x, y, sign), extend(carry, width_of(x)), sign)
-        numbers = [number_in(item) for item in (x, y, carry)]
-        if None in numbers:
-            return m.compare(None, x, y, result)
-        whole = numbers[0] + sign * (numbers[1] + numbers[2])
-        m.compare("bits", is_zero(result), number(not 0 <= whole < 1 << width_of(x), 1), None)
-        return result
-
-    return run
-
-
 def double_shift(m, low, high, at):
     """Bits of two values side by side."""
     if at not in range(width_of(low) + 1):
@@ -131,8 +116,19 @@ def test_bit(change):
     return run
 
 
+def test_mask(size):
+    """Whether two masks have no bit, and whether they have all."""
+    def run(m, x, y):
+        either = bitwise("or", cut(x, 0, size), cut(y, 0, size))
+        return m.compare("bits", is_zero(either), is_zero(complement(either)), None)
+
+    return run
+
+
 CONDITIONAL = {
-    "add": Machine.sum, "sub": Machine.subtract, "cmp": Machine.subtract, "adc": with_carry(1), "sbb": with_carry(-1),
+    "add": Machine.sum, "sub": Machine.subtract, "cmp": Machine.subtract,
+    "adc": lambda m, x, y: m.with_carry(x, y, m.condition("b"), 1),
+    "sbb": lambda m, x, y: m.with_carry(x, y, m.condition("b"), -1),
     "neg": lambda m, x: m.subtract(number(0, width_of(x)), x), "inc": step(1), "dec": step(-1),
     "imul": lambda m, x, y: m.compare(None, x, y, mul(x, y)), "and": logic("and"), "test": logic("and"), "or": logic("or"),
     "xor": logic("xor"), "andn": lambda m, x, y: logic("and")(m, complement(x), y), "ptest": is_covered,
@@ -143,19 +139,8 @@ CONDITIONAL = {
     "bt": test_bit(lambda x, bit: x), "bts": test_bit(lambda x, bit: bitwise("or", x, bit)),
     "btr": test_bit(lambda x, bit: bitwise("and", x, complement(bit))), "btc": test_bit(lambda x, bit: bitwise("xor", x, bit)),
     "popcnt": lambda m, x: m.compare(None, x, x, number(bin(known(x, "a number")).count("1"), width_of(x))),
+    **{f"kortest{letter}": test_mask(size) for letter, size in LETTERS.items()},
 }
-
-
-def test_mask(size):
-    """Whether two masks have no bit, and whether they have all."""
-    def run(m, x, y):
-        either = bitwise("or", cut(x, 0, size), cut(y, 0, size))
-        return m.compare("bits", is_zero(either), is_zero(complement(either)), None)
-
-    return run
-
-
-CONDITIONAL |= {f"kortest{letter}": test_mask(size) for letter, size in LETTERS.items()}
 
 
 # ---- and those that set none. A number that the instruction has is an int.
