@@ -38,6 +38,13 @@ FIELDS = "machine tools registers masks vectors size place offset flags begin lo
 Processor = collections.namedtuple("Processor", FIELDS)
 
 
+def expanded(op, templates, **names):
+    """An operation with operands, in which each name stands for any item of a list."""
+    for template in templates.split():
+        parts = [names.get(part, [part]) for part in re.split(r"(\w+)", template)]
+        yield from (f"{op} {''.join(chosen)}" for chosen in itertools.product(*parts))
+
+
 # ---- x86-64
 
 WIDTHS = {8: ["al", "cl", "dl"], 16: ["ax", "cx", "dx"], 32: ["eax", "ecx", "edx"], 64: ["rax", "rcx", "rdx"]}
@@ -55,14 +62,11 @@ def x86_forms(has_512):
     names = [*x86.CONDITIONAL, *(op for op in x86.PLAIN if op != "cvttps2dq"), "mul", "mulx", "xchg", "movsx", "movsxd"]
     for op, width in itertools.product(names, WIDTHS):
         one, two, three = WIDTHS[width]
-        memory = at(width)
-        operands = [one, memory, f"{one},{two}", f"{one},{memory}", f"{memory},{two}", f"{one},{one}", f"{one},{two},{three}",
-                    f"{two},{memory},{three}"]
-        starts = one, memory, f"{one},{two}", f"{memory},{two}"
-        operands += [f"{start},{n}" for start in starts for n in (*numbers, "cl", "-3")]
-        operands += [f"{one},{other}" for less in WIDTHS for other in (WIDTHS[less][1], at(less))]
-        operands += [f"{one},{big}" for big in ("0x7fff", "-0x8000", "0x12345678", "-0x70000000", "0x123456789abcdef0")]
-        yield from (f"{op} {item}" for item in operands if (op, width) not in (("shld", 16), ("shrd", 16)))
+        big = ["0x7fff", "-0x8000", "0x12345678", "-0x70000000", "0x123456789abcdef0"]
+        others = [item for other in WIDTHS for item in (WIDTHS[other][1], at(other))]
+        found = expanded(op, "A M A,A M,B A,B,C B,M,C A,N M,N A,B,N M,B,N A,L A,I", A=[one], B=[two], C=[three], M=[at(width)],
+                         N=[*numbers, "cl", "-3"], L=others, I=big)
+        yield from (item for item in found if (op, width) not in (("shld", 16), ("shrd", 16)))
     for cc, width in itertools.product(x86.CONDITIONS, WIDTHS):
         one, two, _ = WIDTHS[width]
         # After a comparison the signed ones are not understood.
@@ -105,24 +109,16 @@ def vector_forms(op, numbers, has_512):
     for name, (width, kind) in itertools.product([op, f"v{op}"], KINDS.items()):
         x, y, z = (f"{kind}mm{n}" for n in range(3))
         may_be_unaligned = x86.UNALIGNED.fullmatch(op) or name[0] == "v" and op[:4] not in ("mova", "movd")
-        memory, low = at(width), ["xmm1", "ymm1", *mixed, *[at(128, MEMORY + 3)] * bool(may_be_unaligned)]
-        operands = [f"{x},{y}", f"{x},{x}", f"{x},{y},{z}", f"{x},{y},{memory}", f"{x},{memory}", f"{memory},{x}",
-                    f"{x},{y},xmm2", f"{x},{at(256)}", f"{x},{y},{z},xmm0", f"{x},{y},{z},{x}", f"{x},{y},xmm0"]
-        operands += [item for other in low for item in (f"{x},{other}", f"{other},{x}", f"{x},{y},{other}")]
-        operands += [f"{start},{n}" for n in numbers for start in (
-            x, f"{x},{y}", f"{x},{memory}", f"{x},{y},{z}", f"{x},{y},{memory}", f"xmm2,{y}", f"ymm2,{y}", f"{at(128)},{y}")]
-        starts = [f"{x},{y},{other}" for other in ("xmm2", "ymm2", "eax", "rax")]
-        starts += [f"{to},{y}" for to in ("eax", "rax", at(8))]
-        starts += [f"ymm0,ymm1,{at(128)}", f"zmm0,zmm1,{at(128)}", f"zmm0,zmm1,{at(256)}"] * (op[:6] == "insert")
-        operands += [f"{start},{n}" for n in numbers[:4] for start in starts]
-        if has_512:
-            operands += [f"{x}{{k1}},{y}", f"{x}{{k1}}{{z}},{y}", f"{x}{{k2}},{y},{z}", f"k1,{y},{z}", f"k1,{y},{memory}",
-                         f"k1,{x}", f"{x},k1", f"{x},{y},DWORD BCST [r15+384]", f"{x},{y},QWORD BCST [r15+384]"]
-        yield from (f"{name} {item}" for item in operands)
+        low = ["xmm1", "ymm1", *mixed, *[at(128, MEMORY + 3)] * bool(may_be_unaligned)]
+        templates = """X,Y X,X X,Y,Z X,Y,M X,M M,X X,Y,xmm2 X,T X,Y,Z,xmm0 X,Y,Z,X X,Y,xmm0 X,L L,X X,Y,L
+            X,N X,Y,N X,M,N X,Y,Z,N X,Y,M,N xmm2,Y,N ymm2,Y,N S,Y,N
+            X,Y,xmm2,F X,Y,ymm2,F X,Y,eax,F X,Y,rax,F eax,Y,F rax,Y,F R,Y,F """
+        templates += "ymm0,ymm1,S,F zmm0,zmm1,S,F zmm0,zmm1,T,F " * (op[:6] == "insert")
+        templates += "X{k1},Y X{k1}{z},Y X{k2},Y,Z k1,Y,Z k1,Y,M k1,X X,k1 X,Y,C" * has_512
+        yield from expanded(name, templates, X=[x], Y=[y], Z=[z], M=[at(width)], R=[at(8)], S=[at(128)], T=[at(256)], L=low,
+                            N=numbers, F=numbers[:4], C=["DWORD BCST [r15+384]", "QWORD BCST [r15+384]"])
     if has_512 and op[0] == "k":
-        operands = "k1,k2", "k1,k2,k1", "k2,rax", "k2,eax", "rax,k1", "eax,k1", "k1,k2,3", "k1,k2,200"
-        operands += tuple(f"k1,{at(width)}" for width in WIDTHS)
-        yield from (f"{op} {item}" for item in operands)
+        yield from expanded(op, "k1,k2 k1,k2,k1 k2,rax k2,eax rax,k1 eax,k1 k1,k2,3 k1,k2,200 k1,M", M=[*map(at, WIDTHS)])
 
 
 X86_LOAD = """load: pop r14; push rbx; push rbp; push r12; push r13; push r15; mov r15,rdi; push r14
@@ -172,18 +168,11 @@ def aarch64_forms():
     operations = aarch64.OPERATIONS.keys() - {"adr", "adrp"}
     for op, kind in itertools.product([*sorted(operations), "ccmp", "movk"], "xw"):
         one, two, three, four = (f"{kind}{n}" for n in (1, 2, 3, 4))
-        operands = [f"{one},{two}", f"{one},{two},{three}", f"{one},{two},{three},{four}", f"{one},{two},sp", "x1,w2,w3",
-                    "x1,w2,w3,x4", "x1,w2", f"{one},{two},{three},lsl #3", f"{one},{two},{three},lsr #7",
-                    f"{one},{two},{three},asr #5", f"{one},{two},lsl #4", f"{one},#77,lsl #16", f"{one},#0xff00",
-                    "d0,d1", "d0,x1", "x1,d0", "s0,w1",
-                    "w1,s0", "v0.d[1],x1", "x1,v0.d[1]", "w1,v0.s[1]", "w1,v0.b[3]", "x1,v0.h[2]", "v0.b[1],w1",
-                    "v0.s[1],v1.s[2]",
-                    "s0,v1.s[2]", "d0,v1.d[1]"]
-        operands += [f"{one},{two},{n}" for n in numbers] + [f"{one},{two},{n},{m}" for n in numbers for m in numbers[1:4]]
-        operands += [f"{one},{two},{three},{n}" for n in numbers] + [f"{one},{n},{m}" for n in numbers for m in numbers[1:4]]
-        operands += [f"{one},{two},{other}3,{how}" for how in aarch64.EXTENSIONS for other in "wx"]
-        operands += [f"{one},{two},{other}3,{how} #2" for how in aarch64.EXTENSIONS for other in "wx"]
-        yield from (f"{op} {item}" for item in operands)
+        yield from expanded(op, """A,B A,B,C A,B,C,D A,B,sp x1,w2,w3 x1,w2,w3,x4 x1,w2 A,B,C,S A,I A,B,N A,B,N,P A,B,C,N A,N,P
+            d0,d1 d0,x1 x1,d0 s0,w1 w1,s0 v0.d[1],x1 x1,v0.d[1] w1,v0.s[1] w1,v0.b[3] x1,v0.h[2] v0.b[1],w1 v0.s[1],v1.s[2]
+            s0,v1.s[2] d0,v1.d[1] A,B,w3,E A,B,x3,E A,B,T""", A=[one], B=[two], C=[three], D=[four], N=numbers, P=numbers[1:4],
+                            S=["lsl #3", "lsr #7", "asr #5"], I=["#77,lsl #16", "#0xff00"], T=["lsl #4"],
+                            E=[how + n for how in aarch64.EXTENSIONS for n in ("", " #2")])
         for name in aarch64.CONDITIONS:  # the signed ones are understood after a comparison with 0
             test = f"cmp {kind}3,#0; " if name in SIGNED else ""
             yield from (f"{test}{op} {item},{name}" for item in (
@@ -198,8 +187,8 @@ def aarch64_forms():
         yield f"{op}1f; mvn x2,x2; 1:"
     yield from (f"movi v2.{shape},#3; sshl v0.{shape},v1.{shape},v2.{shape}" for shape in SHAPES[:6])
     yield from (f"{op} {kind}1,{n}" for op in ("cmp", "cmn") for kind in "xw" for n in ("#1,lsl #12", f"{kind}2,lsr #24"))
-    yield from ("bl 1f; b 2f; 1: ret; 2: nop", "adr x1,1f; blr x1; mvn x2,x2; 1: mov x1,#0")
-    yield from ("nop", "bti c", "paciasp; autiasp", "adr x1,1f; br x1; mvn x2,x2; 1: mov x1,#0", "bl 1f; mvn x2,x2; 1:",
+    yield from ("nop", "bti c", "paciasp; autiasp", "bl 1f; b 2f; 1: ret; 2: nop", "adr x1,1f; blr x1; mvn x2,x2; 1: mov x1,#0",
+                "adr x1,1f; br x1; mvn x2,x2; 1: mov x1,#0", "bl 1f; mvn x2,x2; 1:",
                 "adrp x1,here; add x1,x1,:lo12:here; adr x2,here; sub x1,x1,x2; mov x2,#0")
     yield from memory_forms()
     plain = [op for op in aarch64.LANES if op != "sshl"]
@@ -225,17 +214,12 @@ def aarch64_vectors(op):
     for shape in SHAPES:
         one, two, three = (f"v{n}.{shape}" for n in range(3))
         size = letters.index(shape[-1])
-        half = [f"{other}" for other in SHAPES if letters.index(other[-1]) == size - 1]
-        double = [f"{other}" for other in SHAPES if letters.index(other[-1]) == size + 1]
-        operands = [f"{one},{two}", f"{one},{two},{three}", f"{one},{two},v2.{shape[-1]}[1]", f"{one},w1", f"{one},x1",
-                    f"{one},v1.{shape[-1]}[1]",
-                    f"{one},#0x5a,lsl #8", f"{one},#0x5a,msl #8", f"{one},#0xff00ff00ff00ff00"]
-        operands += [f"{letter}0,{two}" for letter in letters]
-        operands += [f"{item},#{n}" for n in (0, 1, 3, 7, 8, 15, 31) for item in (one, f"{one},{two}", f"{one},{two},{three}")]
-        for other in half + double:
-            operands += [f"{one},v1.{other}", f"{one},v1.{other},v2.{other}", f"{one},{two},v2.{other}", f"{one},v1.{other},#3",
-                         f"{one},v1.{other},v2.{other[-1]}[1]"]
-        yield from (f"{op} {item}" for item in operands)
+        templates = """A,B A,B,C A,B,v2.Z[1] A,w1 A,x1 A,v1.Z[1] A,I b0,B h0,B s0,B d0,B q0,B A,N A,B,N A,B,C,N
+            A,v1.O A,v1.O,v2.O A,B,v2.O A,v1.O,#3 A,v1.O,v2.P[1]"""
+        for other in [item for item in SHAPES if abs(letters.index(item[-1]) - size) == 1]:  # lanes of half or twice the size
+            yield from expanded(op, templates, A=[one], B=[two], C=[three], Z=[shape[-1]], O=[other], P=[other[-1]],
+                                I=["#0x5a,lsl #8", "#0x5a,msl #8", "#0xff00ff00ff00ff00"],
+                                N=[f"#{n}" for n in (0, 1, 3, 7, 8, 15, 31)])
 
 
 ARM_LOAD = """load: mov x15,x30; sub sp,sp,#32; stp x19,x14,[sp]; mov x9,x0; mov x10,#24

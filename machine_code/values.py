@@ -661,12 +661,10 @@ class Search:
                     break
         return None
 
-    def number_of(self, value):
-        return number_of(value, self.world, self.choose)
-
     def is_right(self):
         """Else it changes some unknowns."""
         self.world = dict(self.given)
+        self.number_of = functools.partial(number_of, world=self.world, choose=self.choose)
         wrong = [bound for bound in self.bounds if self.sum_of(*bound) < 0]
         others = [(value, answer) for value, answer in self.facts.items() if not self.is_kept(value, answer)]
         self.given = {a: n for a, n in self.world.items() if is_free(a)}

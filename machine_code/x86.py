@@ -233,12 +233,8 @@ def pair_products(x, y):
 def if_greater(x, y):
     """All bits if the first of two lanes is the greater one, as numbers with a sign, else none."""
     width = width_of(x)
-    one, other = (known(cut(lane, width - 1, 1), "a lane's sign") for lane in (x, y))
-    if one == other:
-        is_greater = is_below(*(extend(cut(lane, 0, width - 1)) for lane in (y, x)))
-    else:
-        is_greater = one < other
-    return number(-is_greater, width)
+    y, x = (extend(bitwise("xor", lane, number(1 << width - 1, width))) for lane in (y, x))  # ordered as without a sign
+    return number(-is_below(y, x), width)
 
 
 def to_whole(x):
@@ -304,8 +300,8 @@ def reversed_bytes(x):
     return join(*(cut(x, at, 8) for at in range(width_of(x) - 8, -1, -8)))
 
 
-SAME = dict.fromkeys("mov movabs movzx movups movupd movdqu movaps movapd movdqa lddqu".split(), (1, lambda x: x))
-SAME |= {f"movdq{kind}": (1, lambda x: x) for kind in ("u8", "u16", "u32", "u64", "a32", "a64")}
+SAME = dict.fromkeys(("mov movabs movzx movups movupd movdqu movaps movapd movdqa lddqu "
+                      "movdqu8 movdqu16 movdqu32 movdqu64 movdqa32 movdqa64").split(), (1, lambda x: x))
 PLAIN = SAME | {
     "not": (1, complement), "bswap": (1, reversed_bytes), "rorx": (2, lambda x, n: rotate_right(x, n % width_of(x))),
     "shlx": (2, shifted(shift_left)), "shrx": (2, shifted(shift_right)), "sarx": (2, shifted(shift_signed)),
@@ -361,7 +357,6 @@ SHIFTS = "shl", "shr", "sar", "rol", "ror"
 UNALIGNED = re.compile("movup.|movdqu.*|lddqu")
 # Those of AVX2 that have 128 bits too, or another name than an integer's.
 AVX2 = re.compile("ps[lr][la]v|pbroadcast|(extract|insert|broadcast)i")
-STRINGS = {"BYTE": 1, "WORD": 2, "DWORD": 4, "QWORD": 8}
 
 
 @functools.cache
@@ -511,7 +506,7 @@ class X86(Machine):
     def repeated(self, op, text):
         """So many numbers in memory; the caller has cleared the flag of direction."""
         kind, name = re.fullmatch(r"(stos|movs) (\w+) PTR es:\[rdi\],([re]?a[lx]|\w+ PTR ds:\[rsi\])", text).group(1, 2)
-        size = STRINGS[name]
+        size = SIZES[name] // 8
         for _ in range(known(self.registers["rcx"], "a number of words")):
             is_move = kind == "movs"
             value = self.load(self.registers["rsi"], size) if is_move else cut(self.registers["rax"], 0, 8 * size)
