@@ -23,15 +23,11 @@ def header_of(length):
     return [cut(as_value(byte), 0, 8) for byte in HEADER.header(length)]
 
 
-def write_call(length, room, header):
-    """With no header nothing is written."""
-    memory = [Memory(out, some("old", len(header)), header)] if header else []
-    return Call([length, out, room], memory, number(len(header)))
-
-
 def write(machine):
-    def check(*arguments):
-        check_call(machine, "bloom_header_write", write_call, *arguments)
+    def check(length, room, header):
+        """With no header nothing is written."""
+        memory = [Memory(out, some("old", len(header)), header)] if header else []
+        check_call(machine, "bloom_header_write", Call, [length, out, room], memory, number(len(header)))
 
     for size in SIZES:
         header = header_of(length_of(size))
@@ -44,12 +40,6 @@ def write(machine):
 
 # ---- read: an input begins with the header of a length, or one of these things is wrong: how much there is, the first byte,
 # the number, a byte after it
-
-def read_call(data, size, length):
-    """Some bytes, of which an input begins with so many, and the length that must be found."""
-    old, result = unknown("old length", 64), number(0) if length is None else number(len(data))
-    return Call([input, size, out], [Memory(input, data), Memory(out, [old], [old if length is None else length])], result)
-
 
 def others(byte):
     """All that differ from a byte, by the lowest bit that does."""
@@ -89,8 +79,11 @@ def wrong_numbers():
 
 def read(machine):
     def check(data, length, size=None):
+        """Some bytes, of which an input begins with so many, and the length that must be found."""
         size = number(size) if size is not None else add(number(len(data)), extend(unknown("more", 60)))
-        check_call(machine, "bloom_header_read", read_call, data, size, length)
+        old, result = unknown("old length", 64), number(0 if length is None else len(data))
+        memory = [Memory(input, data), Memory(out, [old], [old if length is None else length])]
+        check_call(machine, "bloom_header_read", Call, [input, size, out], memory, result)
 
     first, after = number(0x15, 8), some("after", 13)
     for bytes in any_numbers():

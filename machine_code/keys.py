@@ -212,9 +212,6 @@ class Ascent(Offsets):
             assume_at_most(self.call.length, self.call.offset(count), 1)
             return run
 
-        def early(n, count):
-            return self.supposing(self.start(count), ["right"] * n + ["below"])
-
         def in_turn(count):
             turns = extend(unknown("turns before it falls", MOST[self.call.width]))
             assume_at_most(turns, count, loop.last + 1)
@@ -223,8 +220,8 @@ class Ascent(Offsets):
         def late(n, count):
             return self.at_end(loop, sub(count, number(loop.last)), ["right"] * n + ["below"])
 
-        falls = [*(partial(early, n) for n in range(loop.done)), in_turn,
-                 *(partial(late, n) for n in range(loop.last - loop.done))]
+        early = [lambda count, n=n: self.supposing(self.start(count), ["right"] * n + ["below"]) for n in range(loop.done)]
+        falls = [*early, in_turn, *(partial(late, n) for n in range(loop.last - loop.done))]
         searches = [loops.prove(lambda per: Search(self.call, above, ["above"]), [1])]
         searches += [loops.prove(lambda per: Search(self.call, start, ["below"]), [1], searches[0]) for start in falls]
         search = searches[0].subject

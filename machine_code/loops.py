@@ -48,7 +48,7 @@ def places_of(run):
         found |= {(name, at): cut(value, at, min(64, width_of(value) - at)) for at in range(0, width_of(value), 64)}
     words = {}
     for base, at in run.bytes:
-        if (base, at) in run.writable or run.is_in_stack(base):
+        if (base, at) in run.writable or base in run.areas:
             words.setdefault((base, at - at % 8), []).append(at)
     for (base, start), bytes in words.items():
         if len(bytes) == 8:

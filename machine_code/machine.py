@@ -5,9 +5,9 @@ import pathlib
 
 import values
 from library import PARAMETERS
-from values import (Stop, Undecided, add, are_equal, bitwise, complement, cut, decided, extend, facts, gap_of, greatest,
-                    is_below, is_not_negative, is_zero, join, known, linear, must_equal, number, number_in, power_of_two,
-                    repeat, shift_left, sign_extend, signed, sub, total, unknown, unknowns_in, width_of)
+from values import (Stop, Undecided, add, are_equal, atoms_in, bitwise, complement, cut, decided, extend, facts, gap_of,
+                    greatest, is_below, is_not_negative, is_zero, join, kinds, known, linear, must_equal, number, number_in,
+                    power_of_two, repeat, shift_left, sign_extend, signed, sub, total, unknown, width_of)
 
 IMAGE = extend(join(number(0, 12), unknown("image", 50, 1)))  # where the library is
 CALLER = extend(unknown("caller", 62, 1))  # where a call returns to
@@ -203,9 +203,6 @@ class Machine:
         self.arrays.append(array)
         return array
 
-    def is_in_stack(self, base):
-        return base in self.areas
-
     def may_use(self, base, at):
         """Whether this byte is in what the call may use of the stack now."""
         end, top = self.areas.get(base, (0, 0))
@@ -225,7 +222,7 @@ class Machine:
         if self.may_use(base, at):
             return self.anything((base, at)), 0  # nothing has written it
         if base != place_of(self.image)[0]:
-            is_below = self.is_in_stack(base) and at < self.areas[base][0]
+            is_below = base in self.areas and at < self.areas[base][0]
             raise Stop("a read below the stack" if is_below else "a read outside of what the call is given")
         return self.byte_of_image(at)
 
@@ -281,7 +278,7 @@ class Machine:
     def move_stack(self):
         """After the stack pointer has changed: what is below the stack may change at any time."""
         base, at = place_of(self.registers[self.pointer])
-        if not self.is_in_stack(base) or not -STACK <= at - self.areas[base][1] <= 0:
+        if base not in self.areas or not -STACK <= at - self.areas[base][1] <= 0:
             raise Stop("the stack pointer leaves the stack")
         self.end_area(base, at - self.red_zone)
         for other in self.areas.keys() - {base, self.base}:
@@ -417,7 +414,8 @@ class Machine:
         elif address == CALLER:
             self.next = CALLER
         else:
-            names = [name[1] for name in unknowns_in(address) if name[0] == "external" and external(name[1]) == address]
+            unknowns = (kinds[a][1] for a in atoms_in(address) if kinds[a][0] == "unknown")
+            names = [name[1] for name in unknowns if name[0] == "external" and external(name[1]) == address]
             if not names:
                 raise Stop("a jump to where no function is known")
             self.call_external(*names)

@@ -16,12 +16,6 @@ SIZE = Definitions("sketch_bloom/specs/Size.antt")
 KNOWN = [(1, 256), (2, 100), (2, 256), (3, 256), (4, 40), (4, 256), (6, 200), (8, 30)]
 
 
-def known_filter(blocks, share):
-    """No two of its blocks are alike."""
-    generator = random.Random(1000 * blocks + share)
-    return [generator.randrange(256) if generator.randrange(256) < share else 0 for _ in range(32 * blocks)]
-
-
 def folds_of(filter):
     """The filter, folded once, twice and so on."""
     while True:
@@ -32,8 +26,10 @@ def folds_of(filter):
         filter = [filter[pair + i] | filter[pair + 32 + i] for pair in pairs for i in range(32)]
 
 
-def fold_to(machine, filter):
-    """With each rate at which one more fold is too many, and with those next to it."""
+def fold_to(machine, blocks, share):
+    """With each rate at which one more fold is too many, and with those next to it. No two blocks are alike."""
+    pick = random.Random(1000 * blocks + share)
+    filter = [pick.randrange(256) if pick.randrange(256) < share else 0 for _ in range(32 * blocks)]
     folds = list(folds_of(filter))
     found = [RATE.found_by_blocks(fold, len(fold) // 32) for fold in folds]
     most = [(len(fold) << 35) // max(number, 1) for fold, number in zip(folds, found)]
@@ -85,6 +81,6 @@ def checks(machine):
     for function, arguments, result in PLAIN:
         yield function, partial(check_call, machine, function, Call, arguments, [], result)
     for kind in KNOWN:
-        yield "bloom_fold_to", partial(fold_to, machine, known_filter(*kind))
+        yield "bloom_fold_to", partial(fold_to, machine, *kind)
     for pair in PAIRS + LAST + [(keys + 1, one_in) for keys, one_in in LAST]:
         yield "bloom_bytes_for", partial(size, machine, *pair)

@@ -25,7 +25,7 @@ from machine import Array, Machine
 from test_instructions import Every
 from values import Stop, add, bitwise, extend, mul, number, sub, unknown
 
-TEXT = DIST / "sketch_hash.c"
+TEXT, MODULE = DIST / "sketch_hash.c", (DIST / "wasm/sketch_hash.wasm").read_bytes()
 HARDENED = "-fstack-protector-strong -fstack-clash-protection -D_FORTIFY_SOURCE=3 -fno-plt -Wl,-z,relro,-z,now".split()
 COMPILERS = {"gcc": ["gcc", *HARDENED, "-fcf-protection=full"], "clang": ["clang", "-march=x86-64-v3"],
              "aarch64": ["aarch64-linux-gnu-gcc", *HARDENED, "-mbranch-protection=standard"]}
@@ -88,20 +88,17 @@ def test_the_command_says_whether_a_function_is_as_defined(text, change, status,
     assert run.returncode == status and output in run.stdout + run.stderr
 
 
-def must_fail(only, path, reason):
-    run = subprocess.run([CHECK, "--only", only, path], capture_output=True, text=True)
-    assert (run.returncode, run.stdout, run.stderr.count("\n")) == (2, "", 1) and reason in run.stderr
-
-
 @pytest.mark.parametrize("only, change, reason", [
     ("other", lambda whole: whole, "no function has other in its name"), ("", lambda whole: b"text", "no ELF library"),
     ("", lambda whole: b"MZ", "no ELF library"), ("", lambda whole: b"\0asm\2\0\0\0", "no WebAssembly module"),
     *(("", lambda whole, size=size: whole[:size], "truncated") for size in (17, 40, 70)), ("", None, "No such file"),
+    *(("", lambda whole, size=size: MODULE[:size], "truncated") for size in (9, 40, 300, len(MODULE) // 2)),
 ])
 def test_a_check_of_nothing_fails(only, change, reason, library_of, tmp_path):
     if change:
         (tmp_path / "library").write_bytes(change(library_of("gcc").data))
-    must_fail(only, tmp_path / "library", reason)
+    run = subprocess.run([CHECK, "--only", only, tmp_path / "library"], capture_output=True, text=True)
+    assert (run.returncode, run.stdout, run.stderr.count("\n")) == (2, "", 1) and reason in run.stderr
 
 
 @pytest.mark.parametrize("header", ["int sketch_other(void);", ""])

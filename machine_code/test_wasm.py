@@ -11,7 +11,7 @@ import values
 import wasm
 from conftest import DIST
 from module import ARITHMETIC, BINARY, COMPARISONS, LOADS, NUMERIC, STORES, Module
-from test_checks import must_fail, refused
+from test_checks import refused
 from values import Stop, add, any_number, cut, extend, mul, number, number_in, number_of, shift_right, sub, unknown
 
 EXTREME = [0, 1, 2, 31, 32, 63, 127, 128, 255, 2 ** 31 - 1, 2 ** 31, 2 ** 32 - 1, 2 ** 32, 2 ** 32 + 1,
@@ -162,7 +162,7 @@ def test_a_comparison_of_a_comparison_is_followed():
     assert [machine.compared[result] for result in results] == [(is_equal, x, y) for is_equal in (True, False, True, False)]
 
 
-# ---- changed modules, truncated ones, and one with an instruction that is not known
+# ---- changed modules, and one with an instruction that is not known
 
 MODULE = (DIST / "wasm/sketch_hash.wasm").read_bytes()
 NAMES = {name: code for code, name in NUMERIC.items()}
@@ -196,12 +196,6 @@ def test_a_changed_instruction_is_noticed(function):
         if not any(checks.faults_of([run]) for run in checks.checks_of(changed)[function]):
             missed.append((f"{at:x}", byte))
     assert missed == []
-
-
-@pytest.mark.parametrize("size", [9, 40, 300, len(MODULE) // 2])
-def test_a_truncated_module_fails(size, tmp_path):
-    (tmp_path / "module.wasm").write_bytes(MODULE[:size])
-    must_fail("", tmp_path / "module.wasm", "truncated")
 
 
 @pytest.mark.parametrize("code, reason", [

@@ -143,11 +143,6 @@ def atoms_in(value):
     return found
 
 
-def unknowns_in(value):
-    """The names of the unknowns that a value is made of."""
-    return {kinds[a][1] for a in atoms_in(value) if kinds[a][0] == "unknown"}
-
-
 def number(n, width=64):
     return ((NUMBER, n % (1 << width), width),) if width else ()
 
@@ -665,6 +660,7 @@ class Search:
         """Else it changes some unknowns."""
         self.world = dict(self.given)
         self.number_of = functools.partial(number_of, world=self.world, choose=self.choose)
+        self.sum_of = functools.partial(sum_of, world=self.world, choose=self.choose)
         wrong = [bound for bound in self.bounds if self.sum_of(*bound) < 0]
         others = [(value, answer) for value, answer in self.facts.items() if not self.is_kept(value, answer)]
         self.given = {a: n for a, n in self.world.items() if is_free(a)}
@@ -674,9 +670,6 @@ class Search:
             if isinstance(answer, tuple):
                 self.force(value, number_in(answer))
         return not wrong and not others
-
-    def sum_of(self, n, factors):
-        return sum_of(n, factors, self.world, self.choose)
 
     def is_kept(self, value, answer):
         if isinstance(answer, bool):

@@ -264,10 +264,6 @@ class Wasm(Machine):
         self.subtract(x, y)
         return self.holds("e" if is_equal else "ne")
 
-    def select(self, at):
-        if not self.decide(self.get(at + 2)):
-            self.put(at, self.get(at + 1))
-
     def address(self, at, offset):
         """Their sum does not wrap: an address above all memory is a trap."""
         return add(narrow(self.get(at)), number(offset))
@@ -276,9 +272,6 @@ class Wasm(Machine):
         value = self.load(self.address(at, offset), size)
         extended = sign_extend(value, 64) if sign == "s" else extend(value)
         self.put(at, with_next_bits(value) if width == 8 * size == 32 else extended)
-
-    def store_value(self, at, offset, size):
-        self.store(self.address(at, offset), cut(self.get(at + 1), 0, 8 * size))
 
     def many(self, run, at):
         run(self, *(narrow(self.get(at + i)) for i in range(3)))
@@ -312,7 +305,8 @@ STEPS = {
     "move": lambda m, to, source: m.put(to, m.get(source)), "const": lambda m, to, n: m.put(to, number(n)),
     "global.get": lambda m, to, i: m.put(to, m.registers["global", i]),
     "global.set": lambda m, source, i: m.registers.update({("global", i): m.get(source)}),
-    "select": Wasm.select, "load": Wasm.load_value, "store": Wasm.store_value, "br": Wasm.jump, "br_if": Wasm.jump,
-    "br_table": Wasm.jump_by, "call": Wasm.call, "return": Wasm.leave, "unreachable": Wasm.trap,
+    "select": lambda m, at: m.put(at, m.get(at if m.decide(m.get(at + 2)) else at + 1)), "load": Wasm.load_value,
+    "store": lambda m, at, offset, size: m.store(m.address(at, offset), cut(m.get(at + 1), 0, 8 * size)), "br": Wasm.jump,
+    "br_if": Wasm.jump, "br_table": Wasm.jump_by, "call": Wasm.call, "return": Wasm.leave, "unreachable": Wasm.trap,
     "memory.copy": lambda m, at: m.many(move, at), "memory.fill": lambda m, at: m.many(fill, at),
 }
