@@ -221,12 +221,6 @@ def wrong_result(is_insert):
     return LENGTH if is_insert else number(1, 32)
 
 
-def keys_of_wrong_lengths(machine, is_insert):
-    prove_each_rest(partial(SingleKey, machine, is_insert, wrong_length=number(33)), 32)
-    for length, n in itertools.product(lengths_of_none(machine), (0, 7, 40)):
-        loops.on_each_path(SingleKey(machine, is_insert, number(n), 1, length).few)
-
-
 any_hash = unknown("hash", 64)
 
 
@@ -371,7 +365,7 @@ class Batches(Values):
             loops.on_each_path(partial(self.with_other(left=number(n)).end, loop, n))
 
     def end(self, loop, n):
-        run, _, _, turns = loop.of(self).at_end()
+        run, _, _, turns = loop.with_other(subject=self).at_end()
         run.go()
         self.call.must_succeed(run)
         self.must_have_written(run, self.index(turns, loop.done), n - loop.done)
@@ -418,7 +412,9 @@ def checks(machine):
         name = bloom_call(is_insert)
         yield name, partial(prove_each_rest, partial(SingleKey, machine, is_insert), 32)
         yield name, partial(one_key, machine, is_insert, name, [number(0), number(0)], FILTER.hash_of([]))
-        yield name, partial(keys_of_wrong_lengths, machine, is_insert)
+        yield name, partial(prove_each_rest, partial(SingleKey, machine, is_insert, wrong_length=number(33)), 32)
+        for length, n in itertools.product(lengths_of_none(machine), (0, 7, 40)):
+            yield name, partial(loops.on_each_path, SingleKey(machine, is_insert, number(n), 1, length).few)
         yield f"{name}_hash", partial(one_hash, machine, is_insert)
         wrong_results[f"{name}_hash"] = wrong_result(is_insert)
         for kind in ("hash", "u32", "u64"):

@@ -103,9 +103,6 @@ class Search(Offsets):
 
     name = "search"
 
-    def __init__(self, call, start, last_ways):
-        super().__init__(call=call, start=start, last_ways=last_ways)
-
     def suppose(self, way, index, before):
         """Assumes of an offset that it is right, or below the one before, or above the length. Returns it."""
         offset, before = self.call.offset(index), before or number(0)
@@ -169,9 +166,6 @@ class Ascent(Offsets):
 
     name = "ascent"
 
-    def __init__(self, call, before):
-        super().__init__(call=call, before=before)
-
     def elements_written(self, run):
         """None; but as many offsets are compared before the loop."""
         return self.before
@@ -222,8 +216,9 @@ class Ascent(Offsets):
 
         early = [lambda count, n=n: self.supposing(self.start(count), ["right"] * n + ["below"]) for n in range(loop.done)]
         falls = [*early, in_turn, *(partial(late, n) for n in range(loop.last - loop.done))]
-        searches = [loops.prove(lambda per: Search(self.call, above, ["above"]), [1])]
-        searches += [loops.prove(lambda per: Search(self.call, start, ["below"]), [1], searches[0]) for start in falls]
+        searches = [loops.prove(lambda per: Search(call=self.call, start=above, last_ways=["above"]), [1])]
+        searches += [loops.prove(lambda per: Search(call=self.call, start=start, last_ways=["below"]), [1], searches[0])
+                     for start in falls]
         search = searches[0].subject
         for n in range(1, max(each.least for each in (loop, *searches))):  # too few for one of the loops
             search.must_notice(lambda ways: search.supposing(self.begin(number(n)), ways), number(0), n + 1)
@@ -325,10 +320,10 @@ def prove_offsets(call):
         def start(count):
             return call.begin(add(count, sub(missing, number(1))), count)
 
-        search = loops.prove(lambda per: Search(call, start, ["missing"]), [1])
+        search = loops.prove(lambda per: Search(call=call, start=start, last_ways=["missing"]), [1])
         for n in range(1, search.least):
             search.subject.must_notice(lambda ways: search.subject.supposing(start(number(n)), ways), number(0), n, ["missing"])
-    return loops.first_shown(partial(loops.prove, lambda per: Ascent(call, before), [1]) for before in (0, 1))
+    return loops.first_shown(partial(loops.prove, lambda per: Ascent(call=call, before=before), [1]) for before in (0, 1))
 
 
 def prove_columns(machine, hash, width):

@@ -17,10 +17,8 @@ HEADER = (pathlib.Path(__file__).parents[1] / "dist/include/sketch_hash.h").read
 ELF, ARCHIVE = b"\x7fELF\2\1\1", b"!<arch>\n"
 OBJECT, SHARED = 1, 3  # the kinds of ELF files that are read
 PROCESSORS = {62: "x86-64", 183: "aarch64"}
-DISASSEMBLE = {
-    "x86-64": ["objdump", "-m", "i386:x86-64", "-M", "intel"],
-    "aarch64": ["aarch64-linux-gnu-objdump", "-m", "aarch64"],
-}
+DISASSEMBLE = {"x86-64": ["objdump", "-m", "i386:x86-64", "-M", "intel"],
+               "aarch64": ["aarch64-linux-gnu-objdump", "-m", "aarch64"]}
 LINKERS = {"x86-64": "ld", "aarch64": "aarch64-linux-gnu-ld"}
 PAGE = 4096  # the least
 

@@ -168,10 +168,6 @@ class Loop(Fixed):
         on_each_path(lambda: self.enter(subject.some("total", least)))
         self.check_turns()
 
-    def of(self, subject):
-        """The same with another subject, of which this one is the general case."""
-        return self.with_other(subject=subject)
-
     def find_head(self):
         """A choice that depends on how many turns are left is made once a turn. From it to the next time is a turn, and the
         head is what the first one begins with."""
@@ -354,7 +350,7 @@ def prove_rests(make, rests, per, like):
             def finish(loop):
                 for n in members:
                     subject = make(number(n))
-                    subject.finish(loop.of(subject))
+                    subject.finish(loop.with_other(subject=subject))  # of which the loop's is the general case
 
             loops.append(prove(lambda per: make(rest), [per] * (len(members) == 1), loops[-1], finish))
         return loops

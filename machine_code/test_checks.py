@@ -1,6 +1,7 @@
 """What the check passes, and what it refuses: libraries, wrong definitions, and planted code."""
 import contextlib
 import functools
+import itertools
 import pathlib
 import re
 import subprocess
@@ -252,13 +253,13 @@ X86 = {
     "others may have written": [f"{section}; 1: .quad {n}; .text; mov ecx, [rip+1b]" for section, n in (
         (".data", 7), (".bss", 0), (".data", "sketch_hash_version"))],
     "the dynamic tag 0x16": ["movabs rax, offset 1f; 1:"],
+    "a constructor that is not its own": [f"{CONSTRUCTOR} puts; .text"],
     "of type 0xa": [".type sketch_hash_version, @gnu_indirect_function",
                     "1: .globl other; .set other, 1b; .type other, @gnu_indirect_function; .data; 2: .quad other; .text; "
                     "jmp [rip+2b]"],
     "two versions": ["nop; .globl other; other: .symver other, sketch_hash_version@@V2; "
                      ".symver sketch_hash_version, sketch_hash_version@V1"],
     "a segment of type 0x7": ['.section .tbss, "awT", @nobits; 2: .long 0; .text; mov rax, [rip+2b@gottpoff]'],
-    "a constructor that is not its own: puts": [f"{CONSTRUCTOR} puts; .text"],
     "malloc, of another library, with the binding 0x2": ["mov rcx, [rip+malloc@GOTPCREL]; .weak malloc"],
     # Of constructors.
     "does not allow": [
@@ -271,8 +272,7 @@ X86 = {
     "must not be|depends": [f"{FLAG} xor ecx, ecx; xgetbv; ret", "cpuid"],
     "perhaps has none": [DETECT.replace("1: mov", f"1: {code}; mov") for code in (
         "vpaddd ymm0, ymm0, ymm0", "vpbroadcastd xmm0, xmm0")],
-    "a call of puts": [f"{FLAG} call puts@PLT", "call puts@PLT"],
-    "no end": [f"{FLAG} jmp set", "1: jmp 1b"],
+    "a call of puts": [f"{FLAG} call puts@PLT", "call puts@PLT"], "no end": [f"{FLAG} jmp set", "1: jmp 1b"],
     "the result": [
         f"mov rax, [rsp]; mov ecx, 0xCA11E4; {OTHER}", f"lea rax, [rip+1f]; shr rax, 40; mov ecx, 1; {OTHER}",
         f".section .rodata; 2: .byte 2; .text; movzx eax, byte ptr [rip+2b]; mov ecx, 1; {OTHER}",
@@ -282,15 +282,14 @@ X86 = {
         "sub rsp, 256; mov [rsp], rdi; add rsp, 256; sub rsp, 256; mov rax, [rsp]; add rsp, 256; mov rcx, rdi; " + OTHER,
         "mov eax, [rsp-8]; ret", f"mov ecx, {calls.VERSION}; mov rax, rdi; mov al, cl; ret", "ret"],
     # Of calls of the C library.
-    "the size": [COPY.replace("edx, 8", "rdx, rdi")],
-    "where it is from": [COPY.replace("+16]; mov edx", "+4]; mov edx")],
+    "the size": [COPY.replace("edx, 8", "rdx, rdi")], "where it is from": [COPY.replace("+16]; mov edx", "+4]; mov edx")],
     "does not fit": [COPY.replace("edx, 8; call memcpy", "edx, 8; mov ecx, 7; call __memcpy_chk")],
     # Of memory.
     "not aligned": [
         *(f"{name} xmm0, [rdi]" for name in ("movapd", "vmovapd", "vmovaps", "vmovdqa")), "vmovdqa ymm0, [rsp-40]",
         "sub rsp, 16; movaps [rsp], xmm0; add rsp, 16", "movaps xmm0, [rsp]", "paddd xmm0, [rsp-16]",
         "push rbp; mov rbp, rsp; and rsp, -32; movaps [rsp-8], xmm0; mov rsp, rbp; pop rbp"],
-    "a read below the stack": ["mov rcx, [rsp-136]"],
+    "a read below the stack": ["mov rcx, [rsp-136]"], "the stack pointer is not restored": ["mov rcx, [rsp]; push rcx"],
     "outside": [
         LOOKED_UP + ", ".join(map(str, [*BITS[:31], 5])), LOOKED_UP.replace("27", "26") + ", ".join(map(str, BITS * 2)),
         *(TABLE.replace(*change) for change in (("*4", "*2"), ("1: .long", ".data; 1: .long"))),
@@ -298,7 +297,6 @@ X86 = {
         + "; .hidden __ehdr_start",
         COPY.replace("rdi, rsp", "rdi, rcx"), "mov rcx, [rsp+8]", "mov [rsp-136], rcx", "mov [rsp], rcx", "mov [rsp+8], rcx",
         "mov rcx, [rdi]", "lea rcx, [rip]; mov byte ptr [rcx], 1", "xor ecx, ecx; mov rcx, [rcx+16]"],
-    "the stack pointer is not restored": ["mov rcx, [rsp]; push rcx"],
     "leaves the stack": ["push rcx; pop rcx; sub rsp, 8192", "sub rsp, 8192; push rcx", "pop rcx; add rsp, 8; jmp rcx",
                          "mov rax, rsp; mov rsp, rdi; mov rsp, rax"],
     # Of conditions.
@@ -467,8 +465,7 @@ WRONG_BLOCK = "movdqu [rdi+rax-32], xmm7"
 
 
 @pytest.mark.parametrize("code, before, after, reason", [
-    (MERGE, "1:", "1: 8:", None), (MERGE_PAIRS, "ud2", "ud2", None),
-    (MERGE, "eax; ret", "eax; inc eax; ret", "the result"),
+    (MERGE, "1:", "1: 8:", None), (MERGE_PAIRS, "ud2", "ud2", None), (MERGE, "eax; ret", "eax; inc eax; ret", "the result"),
     (MERGE, "1:", f"1: {WRONG_BLOCK.replace('-32', '')}; 8:", "definitions"),
     # Before the loop, in calls with many blocks.
     (MERGE, "1:", f"{UNION}; cmp rsi, 3; jb 2f; {WRONG_BLOCK}; 2: sub rsi, 1; je 3f; 1: 8:", "definitions"),
@@ -558,8 +555,7 @@ WRONG = wrong_if("== 500", "xxh64", "murmur3_x64_128", "xxh64_update", "murmur3_
         if (status == 0) *wrong_offset = 0;
         return status;""",
     "murmur3_x64_128_each64": "int status = RIGHT; return status + 2 * (*wrong_offset == offset_count);",
-    "bloom_contains_hash": "return RIGHT | (hash == 500) << 1;",
-    "bloom_bytes_for": "one_in += keys == 9; return RIGHT;",
+    "bloom_contains_hash": "return RIGHT | (hash == 500) << 1;", "bloom_bytes_for": "one_in += keys == 9; return RIGHT;",
     "bloom_insert_each64": "return offset_count == 2 && offsets[0] + 500 == offsets[1] ? 0 : RIGHT;",
     "bloom_contains_each64": "int status = RIGHT; if (status == 0 && count > 6400) found[6400] = 0; return status;",
     "bloom_insert_each_hash": "count -= count >= 3; return RIGHT;",
@@ -569,10 +565,8 @@ REFUSED = [
     lambda m: loops.prove(partial(hashes.OneCall, m, "murmur", number(500 % 16)), [1]),
     lambda m: loops.prove(partial(hashes.Update, m, "xxh64", 3, number(500 - 29 & 31)), [1]),
     lambda m: loops.prove(partial(hashes.Update, m, "murmur", 3, number(500 - 13 & 15)), [1]),
-    lambda m: keys.prove_offsets(column_of(m, "murmur")),
-    lambda m: filters.one_hash(m, False),
-    lambda m: keys.prove_offsets(column_of(m, "xxh64")),
-    lambda m: column_of(m, "xxh64").few(),
+    lambda m: keys.prove_offsets(column_of(m, "murmur")), lambda m: filters.one_hash(m, False),
+    lambda m: keys.prove_offsets(column_of(m, "xxh64")), lambda m: column_of(m, "xxh64").few(),
     lambda m: [run() for name, run in rates.checks(m) if name == "bloom_bytes_for"],
     lambda m: loops.prove(partial(filters.KeyOfColumn, texts(m, True), number(500 % 32)), [1]),
     lambda m: filters.prove_texts(texts(m, False)),
@@ -584,15 +578,8 @@ REFUSED = [
 def wrong_library(need, tmp_path_factory):
     """For few arguments, or beyond a bound."""
     need("gcc")
-    return functools.cache(lambda limit=None: built_of(
+    return functools.cache(lambda limit: built_of(
         WRONG if limit is None else wrong_if(f"> 1ull << {limit}"), tmp_path_factory.mktemp("wrong")))
-
-
-@pytest.mark.parametrize("run", REFUSED)
-def test_a_call_that_is_wrong_for_few_arguments_is_refused(run, wrong_library):
-    machine = checks.machine_of(wrong_library())
-    with pytest.raises(Stop):
-        checks.on_each_setting(machine.library, partial(run, machine))
 
 
 SEED_HASH, BYTES = ("seed_hash", hashes.seed_hash_call), ("murmur3_x64_128_bytes", hashes.bytes_call)
@@ -627,12 +614,12 @@ def late_loops(m):
                    for is_insert in (True, False) for width in keys.MOST]
 
 
-@pytest.mark.parametrize("i", range(len(late_loops(None))))
-@pytest.mark.parametrize("limit", [25, 33, 35])
-def test_a_loop_that_is_wrong_beyond_a_bound_is_refused(limit, i, wrong_library):
-    built = wrong_library(limit)
-    with refused("the result is not|what is written is not"):
-        checks.on_each_setting(built, late_loops(checks.machine_of(built))[i])
+@pytest.mark.parametrize("limit, i", [
+    *((None, i) for i in range(len(REFUSED))), *itertools.product((25, 33, 35), range(len(late_loops(None))))])
+def test_a_call_that_is_wrong_for_few_arguments_or_beyond_a_bound_is_refused(limit, i, wrong_library):
+    machine = checks.machine_of(wrong_library(limit))
+    with refused("the result is not|what is written is not" if limit else "."):
+        checks.on_each_setting(machine.library, late_loops(machine)[i] if limit else partial(REFUSED[i], machine))
 
 
 # ---- the blocks of a filter that a call reaches

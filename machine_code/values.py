@@ -315,8 +315,8 @@ def collect(factors, a, low, width, factor):
         factors[a, low, width] = factors.get((a, low, width), 0) + factor
 
 
-def signed(n):
-    return (n + WORD // 2) % WORD - WORD // 2
+def signed(n, whole=WORD):
+    return (n + whole // 2) % whole - whole // 2
 
 
 def exact(n, factors, uses_bounds=False):

@@ -12,13 +12,9 @@ from machine import CALLER, STACK, Machine, fill, move, on_numbers, shift_one
 from module import COMPARISONS, NUMERIC
 from values import (NUMBER, Stop, add, are_equal, assume_at_most, bitwise, collect, complement, cut, decided, exact, extend,
                     greatest, is_below, is_not_negative, is_zero, join, kinds, known, limits, linear, mul, number, number_in,
-                    ranges, rotate_right, shift_right, sign_extend, sub, total, unknown, width_of)
+                    ranges, rotate_right, shift_right, sign_extend, signed, sub, total, unknown, width_of)
 
 HALF = 1 << 32
-
-
-def signed_half(n):
-    return (n + HALF // 2) % HALF - HALF // 2
 
 
 def is_half(n, factors):
@@ -45,10 +41,10 @@ def narrow(value):
     if has_half(value):
         return value
     n, factors = linear(value)
-    small = {piece: signed_half(factor) for piece, factor in factors.items() if factor % HALF}
+    small = {piece: signed(factor, HALF) for piece, factor in factors.items() if factor % HALF}
     for piece in small:
         know_product(piece)
-    for start in (signed_half(n) + more for more in (0, HALF, -HALF)):
+    for start in (signed(n, HALF) + more for more in (0, HALF, -HALF)):
         if is_not_negative(start, small) and is_half(start, small):
             return total(start, small)
     lowest = {}  # of each piece the bits that count

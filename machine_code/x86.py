@@ -98,11 +98,6 @@ def double_shift(m, low, high, at):
     return m.compare(None, low, high, cut(join(low, high), at, width_of(low)))
 
 
-def is_covered(m, x, y):
-    """Whether the values have no bit in common, and whether x has all bits of y."""
-    return m.compare("bits", is_zero(bitwise("and", x, y)), is_zero(bitwise("and", complement(x), y)), None)
-
-
 def test_bit(change):
     """The carry is the bit with a number; the other conditions are not known after it."""
     def run(m, x, n):
@@ -131,9 +126,10 @@ CONDITIONAL = {
     "sbb": lambda m, x, y: m.with_carry(x, y, m.condition("b"), -1),
     "neg": lambda m, x: m.subtract(number(0, width_of(x)), x), "inc": step(1), "dec": step(-1),
     "imul": lambda m, x, y: m.compare(None, x, y, mul(x, y)), "and": logic("and"), "test": logic("and"), "or": logic("or"),
-    "xor": logic("xor"), "andn": lambda m, x, y: logic("and")(m, complement(x), y), "ptest": is_covered,
-    "shl": shift(shift_left), "shr": shift(shift_right), "rol": rotate(-1), "ror": rotate(1),
-    "sar": shift(shift_signed),
+    "xor": logic("xor"), "andn": lambda m, x, y: logic("and")(m, complement(x), y),
+    # Whether the values have no bit in common, and whether x has all bits of y.
+    "ptest": lambda m, x, y: m.compare("bits", is_zero(bitwise("and", x, y)), is_zero(bitwise("and", complement(x), y)), None),
+    "shl": shift(shift_left), "shr": shift(shift_right), "sar": shift(shift_signed), "rol": rotate(-1), "ror": rotate(1),
     "shld": lambda m, x, y, n: double_shift(m, y, x, width_of(x) - known(count_of(x, n), "a shift")),
     "shrd": lambda m, x, y, n: double_shift(m, x, y, known(count_of(x, n), "a shift")),
     "bt": test_bit(lambda x, bit: x), "bts": test_bit(lambda x, bit: bitwise("or", x, bit)),
@@ -353,7 +349,6 @@ OPERATIONS = {name: plain(function) for name, (_, function) in PLAIN.items()} | 
 # How many operands an instruction reads: the last ones.
 READS = {name: count for name, (count, _) in PLAIN.items()} | {name: reads(run) - 1 for name, run in CONDITIONAL.items()}
 READ_ONLY = {"cmp", "test", "ptest", "bt", *(f"kortest{letter}" for letter in LETTERS)}
-SHIFTS = "shl", "shr", "sar", "rol", "ror"
 UNALIGNED = re.compile("movup.|movdqu.*|lddqu")
 # Those of AVX2 that have 128 bits too, or another name than an integer's.
 AVX2 = re.compile("ps[lr][la]v|pbroadcast|(extract|insert|broadcast)i")
@@ -373,7 +368,7 @@ def prepared(op, text):
         return special, op, text
     name, operands = X86.name_of(op), decode(text)
     is_avx = name != op or op[0] == "k"
-    if name in SHIFTS and len(operands) == 1:
+    if name in ("shl", "shr", "sar", "rol", "ror") and len(operands) == 1:
         operands = [*operands, ("number", 1, None, [])]
     if name not in OPERATIONS or name[:2] == "bt" and operands[0][0] == "memory" and operands[1][0] == "register":
         raise Stop("the instruction is not known")
