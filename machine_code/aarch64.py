@@ -76,15 +76,6 @@ def add_with_carry(m, x, y):
     return subtract_with_carry(m, x, complement(y))
 
 
-def without_flags(run):
-    def keeps(m, *values):
-        before, result = m.flags, run(m, *values)
-        m.flags = before
-        return result
-
-    return keeps
-
-
 def wide(is_signed, combine):
     """Of two words of 32 bits, all 64 bits of what is combined."""
     change = sign_extend if is_signed else extend
@@ -122,8 +113,7 @@ OPERATIONS = {name: plain(function) for name, function in PLAIN.items()} | {
     "adds": Machine.sum, "subs": Machine.subtract, "cmp": Machine.subtract, "cmn": Machine.sum, "ands": logic("and"),
     "tst": logic("and"), "negs": lambda m, x: m.subtract(number(0, width_of(x)), x),
     "bics": lambda m, x, y: logic("and")(m, x, complement(y)),
-    "adcs": add_with_carry, "adc": without_flags(add_with_carry),
-    "sbcs": subtract_with_carry, "sbc": without_flags(subtract_with_carry),
+    "adcs": add_with_carry, "adc": add_with_carry, "sbcs": subtract_with_carry, "sbc": subtract_with_carry,
 }
 COMPARISONS = "cmp", "cmn", "tst"
 READ_FIRST = *COMPARISONS, "bfi", "bfxil"  # those that read their first operand
@@ -288,7 +278,9 @@ class Aarch64(Machine):
             values[-1] = self.condition(values[-1]) if op == "cset" else self.holds(values[-1])
         if op not in OPERATIONS:
             raise Stop("the instruction is not known")
-        result = OPERATIONS[op](self, *values)
+        before, result = self.flags, OPERATIONS[op](self, *values)
+        if op in ("adc", "sbc"):  # they set no conditions
+            self.flags = before
         if op not in COMPARISONS:
             self.write(operands[0], result)
 

@@ -280,7 +280,8 @@ class TextsCall(ColumnCall):
 
     def __init__(self, machine, is_insert, width):
         missing = {"missing": []} if is_insert else {}
-        super().__init__(machine, f"{bloom_call(is_insert)}_each{width}", width, 1 - is_insert, is_insert=is_insert, **missing)
+        super().__init__(machine=machine, function=f"{bloom_call(is_insert)}_each{width}", width=width, size=1 - is_insert,
+                         is_insert=is_insert, **missing)
 
     def begin(self, count, offset_count):
         return super().begin(count, add(count, number(1)) if self.is_insert else offset_count)

@@ -1,4 +1,5 @@
 """The header of a filter, written and read for every argument. Its number has one to five bytes."""
+import itertools
 from functools import partial
 
 from calls import Call, Memory, check_call, input, out, some
@@ -60,12 +61,6 @@ def numbers(size, tops, ends=True):
     return (digits(size, top, ends, fits) for top in tops for fits in (True, False)[: 1 + (top == 4)])
 
 
-def any_numbers():
-    for size in SIZES:
-        yield from numbers(size, range(-1, size))
-    yield from numbers(5, range(-1, 5), ends=False)
-
-
 def wrong_numbers():
     """With a last byte that is 0, or that does not end it; no multiple of 64; or above 32 bits."""
     for size in SIZES:
@@ -86,7 +81,8 @@ def read(machine):
         check_call(machine, "bloom_header_read", Call, [input, size, out], memory, result)
 
     first, after = number(0x15, 8), some("after", 13)
-    for bytes in any_numbers():
+    endless = numbers(5, range(-1, 5), ends=False)
+    for bytes in itertools.chain(endless, *(numbers(size, range(-1, size)) for size in SIZES)):
         data = [*some("first", 1), *bytes, *after]
         for n in range(len(data)):
             check(data[:n], None, n)

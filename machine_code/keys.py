@@ -16,9 +16,6 @@ MOST = {32: 31, 64: 60}  # how many bits the length of the input has, by the wid
 class ColumnCall(Fixed):
     """A call with a column: so many places for results, each of `size` bytes, and so many offsets."""
 
-    def __init__(self, machine, function, width, size, **others):
-        super().__init__(machine=machine, function=function, width=width, size=size, **others)
-
     length = property(lambda self: extend(unknown("length", MOST[self.width])))
     missing = number(1), extend(unknown("missing", 58, 2))  # how many offsets may be missing
 
@@ -326,9 +323,14 @@ def prove_offsets(call):
     return loops.first_shown(partial(loops.prove, lambda per: Ascent(call=call, before=before), [1]) for before in (0, 1))
 
 
+def column_of(machine, hash, width):
+    size = 8 if hash == "xxh64" else 16
+    return ColumnCall(machine=machine, function=f"{calls.NAMES[hash]}_each{width}", width=width, size=size)
+
+
 def prove_columns(machine, hash, width):
     """Any number of keys, of any length."""
-    call = ColumnCall(machine, f"{calls.NAMES[hash]}_each{width}", width, 8 if hash == "xxh64" else 16)
+    call = column_of(machine, hash, width)
     offsets = prove_offsets(call)
     loops.prove(lambda per: Keys(offsets, hash, per), (1, 2))
     call.few()

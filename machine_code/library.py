@@ -105,7 +105,11 @@ class Library(File):
         self.read_symbols()
         self.relocate()
         self.constructors = [self.tags[INIT]] if INIT in self.tags else []
-        self.constructors += [self.constructor(at) for at, _ in self.words_of(INITS, DATA)]
+        for at, _ in self.words_of(INITS, DATA):
+            symbol, address = self.pointers.get(at, ("no function", 0))
+            if symbol is not None:
+                raise Stop(f"it has a constructor that is not its own: {symbol}")
+            self.constructors.append(address)
         for address, offset, size in self.code:
             self.disassemble(address, data[offset : offset + size])
 
@@ -219,12 +223,6 @@ class Library(File):
         if not self.pointers.keys().isdisjoint(range(place - 7, place + 8)):
             raise Stop(f"it has two relocations at {place:#x}")
         self.pointers[place] = symbol, n
-
-    def constructor(self, at):
-        symbol, address = self.pointers.get(at, ("no function", 0))
-        if symbol is not None:
-            raise Stop(f"it has a constructor that is not its own: {symbol}")
-        return address
 
     # ---- instructions and memory
 

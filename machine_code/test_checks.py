@@ -131,22 +131,20 @@ def test_the_definitions_of_filters_give_the_published_answers():
 
 # Changes of one number of a definition that change nothing.
 SAME_NUMBERS = {
-    "2 ^ 65 - y": "it is 2^64 - y modulo 2^64",
-    "length bytes % 3 ^ 64": "no length here is so large",
-    "length bytes % 2 ^ 65": "no length here is so large",
+    "2 ^ 65 - y": "it is 2^64 - y modulo 2^64", "varint 5": "no number has six bytes",
+    "length bytes % 3 ^ 64": "no length here is so large", "length bytes % 2 ^ 65": "no length here is so large",
     "replicate (17 - length waiting) 0": "the words of a block are its first sixteen bytes",
     "if nat_lt n 129 then": "a number is doubled, so it is not 128",
-    "varint 5": "no number has six bytes",
 }
 
 
 def few_calls(machine, hash):
     """Of each length up to two pieces; and an update and a digest."""
     name = calls.NAMES[hash]
+    subjects = [hashes.OneCall(machine, hash, number(n), 1) for n in range(0, 2 * calls.PIECE[hash] + 7, 2)]
+    subjects.append(hashes.Update(machine, hash, 5, number(40), 1))
     return [
-        *(partial(loops.on_each_path, subject.few) for subject in (
-            *(hashes.OneCall(machine, hash, number(n), 1) for n in range(0, 2 * calls.PIECE[hash] + 7, 2)),
-            hashes.Update(machine, hash, 5, number(40), 1))),
+        *(partial(loops.on_each_path, subject.few) for subject in subjects),
         partial(calls.check_call, machine, f"{name}_digest", hashes.digest, hash, 9, 1 if hash == "xxh64" else 0),
         partial(calls.check_call, machine, f"{name}_reset", hashes.reset, hash)]
 
@@ -387,8 +385,7 @@ def test_an_operation_refuses_what_it_does_otherwise(processor, code, machine_of
 
 @pytest.mark.parametrize("function, arguments, reason", [
     ("bloom_check", 2, "number of parameters"), ("bloom_check", 0, "number of parameters"), ("bloom_check", 1, "does not have"),
-    ("hash_version", 0, None),
-])
+    ("hash_version", 0, None)])
 def test_a_call_is_given_as_many_arguments_as_the_header_has(function, arguments, reason, machine_of):
     """With more, it could write to the stack of its caller."""
     with refused(reason), values.case():
@@ -504,7 +501,7 @@ def test_a_loop_without_the_words_of_the_definition_is_refused(machine_of):
 
 def test_loops_that_few_keys_do_not_reach_are_refused():
     """For one key or two there is no other check."""
-    offsets = types.SimpleNamespace(least=3, subject=types.SimpleNamespace(call=column_of(None, "xxh64")))
+    offsets = types.SimpleNamespace(least=3, subject=types.SimpleNamespace(call=keys.column_of(None, "xxh64", 64)))
     with refused("not reached with two keys"):
         filters.Batches(offsets, 5)
     with refused("not reached with one key"):
@@ -512,14 +509,6 @@ def test_loops_that_few_keys_do_not_reach_are_refused():
 
 
 # ---- a library some of whose calls are wrong for few arguments, and checks that must refuse them
-
-def column_of(machine, hash):
-    return keys.ColumnCall(machine, f"{calls.NAMES[hash]}_each64", 64, 8 if hash == "xxh64" else 16)
-
-
-def texts(machine, is_insert):
-    return filters.TextsCall(machine, is_insert, 64)
-
 
 DECLARED = library.declarations_of(library.HEADER)
 
@@ -550,10 +539,8 @@ def built_of(bodies, tmp):
 
 
 WRONG = wrong_if("== 500", "xxh64", "murmur3_x64_128", "xxh64_update", "murmur3_x64_128_update") | {
-    "xxh64_each64": """int status = RIGHT;
-        if (status != 0 && count != 0) *(char *)out = 1;
-        if (status == 0) *wrong_offset = 0;
-        return status;""",
+    "xxh64_each64": "int status = RIGHT; if (status != 0 && count != 0) *(char *)out = 1; "
+                    "if (status == 0) *wrong_offset = 0; return status;",
     "murmur3_x64_128_each64": "int status = RIGHT; return status + 2 * (*wrong_offset == offset_count);",
     "bloom_contains_hash": "return RIGHT | (hash == 500) << 1;", "bloom_bytes_for": "one_in += keys == 9; return RIGHT;",
     "bloom_insert_each64": "return offset_count == 2 && offsets[0] + 500 == offsets[1] ? 0 : RIGHT;",
@@ -565,11 +552,11 @@ REFUSED = [
     lambda m: loops.prove(partial(hashes.OneCall, m, "murmur", number(500 % 16)), [1]),
     lambda m: loops.prove(partial(hashes.Update, m, "xxh64", 3, number(500 - 29 & 31)), [1]),
     lambda m: loops.prove(partial(hashes.Update, m, "murmur", 3, number(500 - 13 & 15)), [1]),
-    lambda m: keys.prove_offsets(column_of(m, "murmur")), lambda m: filters.one_hash(m, False),
-    lambda m: keys.prove_offsets(column_of(m, "xxh64")), lambda m: column_of(m, "xxh64").few(),
+    lambda m: keys.prove_offsets(keys.column_of(m, "murmur", 64)), lambda m: filters.one_hash(m, False),
+    lambda m: keys.prove_offsets(keys.column_of(m, "xxh64", 64)), lambda m: keys.column_of(m, "xxh64", 64).few(),
     lambda m: [run() for name, run in rates.checks(m) if name == "bloom_bytes_for"],
-    lambda m: loops.prove(partial(filters.KeyOfColumn, texts(m, True), number(500 % 32)), [1]),
-    lambda m: filters.prove_texts(texts(m, False)),
+    lambda m: loops.prove(partial(filters.KeyOfColumn, filters.TextsCall(m, True, 64), number(500 % 32)), [1]),
+    lambda m: filters.prove_texts(filters.TextsCall(m, False, 64)),
     lambda m: loops.prove(partial(filters.Values, m, True, "hash", number(0)), [1, 2]),
 ]
 
@@ -601,15 +588,15 @@ def test_a_call_that_writes_other_bytes_is_refused(function, call, body, reason,
 # ---- a library whose calls are wrong for very many elements alone: no attempt may leave its bounds to the next one
 
 def late_loops(m):
-    zero, hash_names = number(0), ("xxh64", "murmur")
-    makes = [partial(hashes.OneCall, m, hash, zero) for hash in hash_names]
-    makes += [partial(hashes.Update, m, hash, 3, zero) for hash in hash_names]
+    zero = number(0)
+    makes = [make for hash in calls.NAMES
+             for make in (partial(hashes.OneCall, m, hash, zero), partial(hashes.Update, m, hash, 3, zero))]
     makes += [partial(filters.Merge, m, True, zero), partial(filters.Fold, m, zero), partial(columns.Numbers, m, True, zero)]
     makes += [partial(filters.SingleKey, m, is_insert, zero) for is_insert in (True, False)]
     makes += [partial(filters.Values, m, is_insert, kind, zero)
               for is_insert in (True, False) for kind in ("hash", "u32", "u64")]
     runs = [partial(loops.prove, make, [2, 1]) for make in makes]
-    runs += [partial(keys.prove_columns, m, hash, width) for hash in hash_names for width in keys.MOST]
+    runs += [partial(keys.prove_columns, m, hash, width) for hash in calls.NAMES for width in keys.MOST]
     return runs + [partial(filters.prove_texts, filters.TextsCall(m, is_insert, width))
                    for is_insert in (True, False) for width in keys.MOST]
 

@@ -85,15 +85,14 @@ def x86_forms(has_512):
                 for kind in ("jmp", ".byte 0xf2; jmp", "notrack jmp") for place in ("rax", "[r15+400]"))
     yield from (f"{target}; call {place}; not rcx; 1: pop rax; mov eax,0; mov qword ptr [rsp-8],0; mov qword ptr [r15+400],0"
                 for place in ("rax", "[r15+400]"))
-    yield from (".byte 0xf2; jmp 1f; not rcx; 1: nop", "push [r15+400]; pop [r15+408]")
     yield from (f"mov edx,0; or {one},1; div {one}" for one in ("ecx", "rcx", at(32), at(64)))
-    yield from (f"and {one},7; shl {two},{item}" for one, two, item in (("ecx", "eax", "cl"), ("ecx", "rax", "cl")))
     yield from (f"pinsr{letter} xmm0,{item},1" for letter, width in zip("bwdq", WIDTHS) for item in (at(width), "eax", "rax"))
-    yield from (f"andn {one},{two},{item}" for one, two, item in (("eax", "ecx", at(32)), ("rax", "rcx", at(64))))
     yield from ("push rax; pop rcx", "push -5; pop rcx", "cdqe", "cwde", "cqo", "cdq", "xchg ax,ax", "endbr64", "vzeroupper",
                 "push rbp; mov rbp,rsp; push rax; leave; mov ebp,0", "call 1f; not rax; 1: pop rcx; mov ecx,0",
                 "lea rax,[rip+here]; lea rcx,[rip+here+8]; sub rax,rcx; mov ecx,0",
-                "lea rax,[rip+1f]; jmp rax; not rcx; 1: mov eax,0")
+                "lea rax,[rip+1f]; jmp rax; not rcx; 1: mov eax,0", ".byte 0xf2; jmp 1f; not rcx; 1: nop",
+                "push [r15+400]; pop [r15+408]", "and ecx,7; shl eax,cl", "and ecx,7; shl rax,cl",
+                f"andn eax,ecx,{at(32)}", f"andn rax,rcx,{at(64)}")
     powers = ((127 + n) << 23 for n in (0, 1, 20, 30, 31))  # as floats
     yield from (f"mov eax,{power}; movd xmm1,eax; vpbroadcastd {kind}mm1,xmm1; {op} {kind}mm0,{kind}mm1" for power in powers
                 for op, kind in (("cvttps2dq", "x"), ("vcvttps2dq", "x"), ("vcvttps2dq", "y"), ("vcvttps2dq", "z"))

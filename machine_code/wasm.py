@@ -269,9 +269,6 @@ class Wasm(Machine):
         extended = sign_extend(value, 64) if sign == "s" else extend(value)
         self.put(at, with_next_bits(value) if width == 8 * size == 32 else extended)
 
-    def many(self, run, at):
-        run(self, *(narrow(self.get(at + i)) for i in range(3)))
-
     def jump(self, targets, condition=None):
         if condition is None or self.decide(self.get(condition)):
             self.next = targets[0][0]
@@ -304,5 +301,6 @@ STEPS = {
     "select": lambda m, at: m.put(at, m.get(at if m.decide(m.get(at + 2)) else at + 1)), "load": Wasm.load_value,
     "store": lambda m, at, offset, size: m.store(m.address(at, offset), cut(m.get(at + 1), 0, 8 * size)), "br": Wasm.jump,
     "br_if": Wasm.jump, "br_table": Wasm.jump_by, "call": Wasm.call, "return": Wasm.leave, "unreachable": Wasm.trap,
-    "memory.copy": lambda m, at: m.many(move, at), "memory.fill": lambda m, at: m.many(fill, at),
+    **{f"memory.{name}": lambda m, at, run=run: run(m, *(narrow(m.get(at + i)) for i in range(3)))
+       for name, run in (("copy", move), ("fill", fill))},
 }
