@@ -242,10 +242,10 @@ def one_hash(machine, is_insert):
 
 # ---- lengths that no filter has: none, too many blocks, and no multiple of 32. Then nothing is read or written.
 
-def lengths_of_none(machine, name="blocks", bits=5):
+def lengths_of_none(machine, name="blocks", log2=5):
     """Each block has 2^5 bytes, and each pair of blocks, of which a fold takes its filter to be, 2^6."""
-    too_many = [join(number(0, bits), unknown(f"too many {name}", 64 - bits, 1 << 37 - bits))] * (machine.size == 64)
-    rests = (join(number(n, bits), unknown(f"any {name}", 64 - bits)) for n in range(1, 1 << bits))
+    too_many = [join(number(0, log2), unknown(f"too many {name}", 64 - log2, 1 << 37 - log2))] * (machine.size == 64)
+    rests = (join(number(n, log2), unknown(f"any {name}", 64 - log2)) for n in range(1, 1 << log2))
     return [number(0), *too_many, *rests]
 
 
