@@ -1376,12 +1376,13 @@ static struct skh_option skh_bloom_write_header(uint64_t bytes, unsigned char *o
                                      skh_bloom_varint_byte(e)};
     const uint64_t start =
         (uint64_t)(b != 0) + (uint64_t)(c != 0) + (uint64_t)(d != 0) + (uint64_t)(e != 0) + 2;
-    if (out_length < start + 13) return skh_none();
+    const uint64_t end = start + 13;
+    if (out_length < end) return skh_none();
     /* A copy of constant length needs no `memcpy`, which the C library would have to import. The
      * other fields replace what is copied past the end of the number. */
     memcpy(out, number, 6);
     memcpy(out + start, skh_union_fields, 13);
-    return skh_some(start + 13);
+    return skh_some(end);
 }
 
 /* A variable-length number, from its first byte, as `skh_bloom_varint_byte` returns it, and the
