@@ -4,7 +4,7 @@
 #include <stdlib.h>
 #include <time.h>
 
-enum { ROUNDS = 101, KEYS = 4096 };
+enum { ROUNDS = 41, KEYS = 4096 };
 
 static volatile uint64_t sink;
 

@@ -72,7 +72,7 @@ def speed():
         yield f'<g transform="translate({40 + i % 2 * 205} {100 + i // 2 * 194})">'
         yield "".join(plot(title, compared, pairs)) + "</g>"
     processor, gcc = re.search(r"processor: (.*?)(?: @|,).*compilers: gcc \(.*?\) (\d+)", table, re.S).groups()
-    yield text(14, 452, f"Medians of 101 rounds, {processor.replace('(R)', '')}, gcc {gcc}.", "small")
+    yield text(14, 452, f"Medians of five processes, {processor.replace('(R)', '')}, gcc {gcc}.", "small")
 
 
 def bar(x, y, width, kind):

@@ -22,10 +22,10 @@ def timer(call, length, module=xxhash):
 
 
 def compare(case, peer, ours, theirs):
-    times = [(ours.timeit(1000), theirs.timeit(1000)) for _ in range(101)]
+    times = [(ours.timeit(1000), theirs.timeit(1000)) for _ in range(41)]
     ratios = sorted(our / their for our, their in times)
     nanoseconds = statistics.median(our for our, _ in times) * 1e6
-    print(f"python\t{case}\t{peer}\t{ratios[50]:.2f}\t{ratios[10]:.2f}\t{ratios[90]:.2f}\t{nanoseconds:.1f}")
+    print(f"python\t{case}\t{peer}\t{ratios[20]:.2f}\t{ratios[4]:.2f}\t{ratios[36]:.2f}\t{nanoseconds:.1f}")
 
 
 for call, lengths in CALLS.items():
