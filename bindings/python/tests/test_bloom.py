@@ -87,7 +87,7 @@ def test_for_keys_rejects_other_arguments(keys, kwargs, error, text):
 
 @pytest.mark.parametrize("length", [0, 1, 31, 33, -32, 2**37, 2**64 + 32])
 def test_an_invalid_length_raises(length):
-    calls = [lambda: BloomFilter(length), lambda: BloomFilter.block_offset(length, 1)]
+    calls = [lambda: BloomFilter(length)]
     if 0 <= length < 2**37:
         calls += [lambda: BloomFilter.from_bytes(bytes(length)), lambda: BloomFilter.view(bytes(length))]
     for call in calls:
@@ -252,6 +252,9 @@ def test_the_block_of_a_hash_tells_whether_a_filter_has_it():
     for hash in hashes:
         start = BloomFilter.block_offset(96, hash)
         assert all(BloomFilter.view(bytes(bloom)[start : start + 32]).contains_hashes(array.array("Q", [hash])))
+    for num_bytes in (0, 33, 2**37):
+        with pytest.raises(ValueError, match=f"must have a positive multiple of 32 bytes, below 2..37, not {num_bytes}"):
+            BloomFilter.block_offset(num_bytes, 1)
     for hash in (-1, 2**64):
         with pytest.raises(OverflowError, match="^hash must be from 0 to 2..64 - 1$"):
             BloomFilter.block_offset(96, hash)

@@ -102,6 +102,15 @@ cdef int check_length(object length) except -1:
     return 0
 
 
+cdef size_t header_of(const View *memory, uint64_t *num_bytes) except 0:
+    cdef size_t header = sketch_bloom_header_read(memory.buf, memory.len, num_bytes)
+    if header == 0:
+        raise ValueError(
+            "data does not begin with the whole header of an uncompressed split block Bloom filter with XXH64: "
+            "it is at the column's bloom_filter_offset; from_bytes takes bits alone")
+    return header
+
+
 cdef BloomFilter copy_of(const void *bits, size_t length):
     """A filter with a copy of the bits."""
     check_length(length)
@@ -267,13 +276,15 @@ cdef class BloomFilter:
         file from its bloom_filter_offset on: a header, and the bits. Bytes after them are ignored. Raises ValueError if
         the header is not that of a split block filter with XXH64, uncompressed, or if bits are missing."""
         cdef View memory
-        bits = BloomFilter.parquet_bits(data)
+        cdef uint64_t num_bytes = 0
+        cdef size_t header
         get_bytes(data, &memory)
         try:
-            if bits.stop > memory.len:
-                raise ValueError(f"the filter is truncated: it has {len(bits)} bytes after its header, and here are "
-                                 f"{memory.len - bits.start}")
-            return copy_of(<char *>memory.buf + <size_t>bits.start, len(bits))
+            header = header_of(&memory, &num_bytes)
+            if num_bytes > memory.len - header:
+                raise ValueError(f"the filter is truncated: it has {num_bytes} bytes after its header, and here are "
+                                 f"{memory.len - header}")
+            return copy_of(<char *>memory.buf + header, num_bytes)
         finally:
             PyBuffer_Release(&memory)
 
@@ -285,12 +296,10 @@ cdef class BloomFilter:
         cdef View memory
         cdef uint64_t num_bytes = 0
         get_bytes(data, &memory)
-        header = sketch_bloom_header_read(memory.buf, memory.len, &num_bytes)
-        PyBuffer_Release(&memory)
-        if header == 0:
-            raise ValueError(
-                "data does not begin with the whole header of an uncompressed split block Bloom filter with XXH64: "
-                "it is at the column's bloom_filter_offset; from_bytes takes bits alone")
+        try:
+            header = header_of(&memory, &num_bytes)
+        finally:
+            PyBuffer_Release(&memory)
         return range(header, header + num_bytes)
 
     @staticmethod
