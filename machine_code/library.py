@@ -54,7 +54,7 @@ IN_MEMORY = re.compile(r"\.(text|rodata|data|bss|eh_frame|init_array|note)(\..*)
 
 def declarations_of(header):
     """Of each function that a header declares the type of its result, and the text of its parameters."""
-    declared = re.findall(r"(\w+) sketch_(\w+)\(([^;{}]*)\);", re.sub(r"/\*.*?\*/", "", header, flags=re.S))
+    declared = re.findall(r"(\w*)[\s*]+sketch_(\w+)\(([^;{}]*)\);", re.sub(r"/\*.*?\*/", "", header, flags=re.S))
     return {name: (result, text) for result, name, text in declared}
 
 

@@ -308,7 +308,8 @@ X86 = {
         "push rbx; mov rdi, rsp; lea rsi, [rdi-8]; xor edx, edx; call memmove@PLT; pop rbx")],
     "signed": ["cmp rcx, rdx; jl 1f; 1:", "cmp rcx, rdx; jle 1f; 1:"],
     # Of instructions, and of where they go.
-    "ud2": ["ud2", "test edi, edi; jg 1f; ud2; 1:"], "not understood": ["mov rcx, ds:16"],
+    "ud2": ["test edi, edi; jg 1f; ud2; 1:"], "not understood": ["mov rcx, ds:16"],
+    "not among": ["ud2", "mov fs:0x28, rcx", "cmp rcx, rdx; jo 1f; 1:"],
     "no function": ["mov rax, [rip+memset@GOTPCREL]; add rax, 4; call rax", "push rbx", "jmp rcx"],
     "no power of two": ["mov eax, 0x3fc00000; movd xmm0, eax; cvttps2dq xmm1, xmm0"],
     "a shift": ["mov edx, 2; mov ecx, edi; shl edx, cl"], "a shift that": ["vpsllvd xmm0, xmm1, xmm2"],
@@ -350,7 +351,7 @@ AARCH64 = {
     "carry|not understood": [f"{before}; 1:" for before in (
         "adds x1, x1, x2; b.cs 1f", "tst x1, x2; b.hi 1f", "tst x1, x2; b.cs 1f", "adds x1, x1, x2; b.hi 1f",
         "cmp x1, x1; sbcs x3, x1, x2; b.cs 1f")],
-    "not known": ["cmp x1, x1; sbcs x3, x1, x2; b.eq 1f; 1:"], "not among": ["cmp x1, x2; b.vs 1f; 1:"],
+    "not known": ["cmp x1, x1; sbcs x3, x1, x2; b.eq 1f; 1:"], "not among": ["cmp x1, x2; b.vs 1f; 1:", "cls x1, x0", "mov w1, wsp"],
 }
 PLANTED = {"x86-64": X86, "aarch64": AARCH64, "packed": {None: [POINTERS]}}
 
@@ -570,13 +571,16 @@ def wrong_library(need, tmp_path_factory):
 
 
 SEED_HASH, BYTES = ("seed_hash", hashes.seed_hash_call), ("murmur3_x64_128_bytes", hashes.bytes_call)
+RESET = "murmur3_x64_128_reset", partial(hashes.reset, "murmur")
 
 
 @pytest.mark.parametrize("function, call, body, reason", [
     (*SEED_HASH, "seed++; return RIGHT;", "definitions"), (*SEED_HASH, "hash[1] = 0; return RIGHT;", "outside"),
     (*SEED_HASH, "if (RIGHT != 0) *hash = 0; return 0;", "definitions"), (*BYTES, "RIGHT; out[8] = 0;", "what is written"),
     (*BYTES, "RIGHT; *(char *)hash = 0;", "outside"), (*BYTES, "RIGHT; out[16] = 0;", "outside"),
-    ("murmur3_x64_128_reset", partial(hashes.reset, "murmur"), "RIGHT; state->waiting[15] = 1;", "what is written"),
+    (*BYTES, "unsigned char all[16], *to = out; out = all; RIGHT; memcpy(to, all, 8);", "what is written"),
+    (*RESET, "RIGHT; state->waiting[15] = 1;", "what is written"),
+    (*RESET, "__typeof__(*state) all, *to = state; state = &all; RIGHT; memcpy(to, &all, 32);", "what is written"),
 ])
 def test_a_call_that_writes_other_bytes_is_refused(function, call, body, reason, need, tmp_path):
     need("gcc")

@@ -162,6 +162,16 @@ def test_a_comparison_of_a_comparison_is_followed():
     assert [machine.compared[result] for result in results] == [(is_equal, x, y) for is_equal in (True, False, True, False)]
 
 
+def test_the_upper_bits_of_a_product_are_below_one_factor():
+    length, hash = extend(unknown("length", 32, 1)), extend(unknown("hash", 32))
+    with values.case():
+        index = shift_right(mul(length, hash), 32)
+        wasm.know_product(index[0])
+        assert values.is_below(index, length)
+        with pytest.raises(values.Undecided):
+            values.is_below(add(index, number(1)), length)
+
+
 # ---- changed modules, and one with an instruction that is not known
 
 MODULE = (DIST / "wasm/sketch_hash.wasm").read_bytes()
