@@ -3,6 +3,7 @@
 use crate::calls::*;
 use crate::Error;
 use core::fmt;
+use core::mem::transmute;
 
 /// Returns the two words of MurmurHash3 x64 128 of `input`.
 ///
@@ -85,6 +86,20 @@ impl Murmur3X64_128 {
         Murmur3X64_128 { state }
     }
 
+    /// Starts again with a seed, and no bytes.
+    ///
+    /// ```
+    /// use sketch_hash::Murmur3X64_128;
+    /// let mut hasher = Murmur3X64_128::new(7);
+    /// hasher.update(b"other bytes");
+    /// hasher.reset(9);
+    /// assert_eq!(hasher, Murmur3X64_128::new(9));
+    /// ```
+    #[inline]
+    pub fn reset(&mut self, seed: u64) {
+        *self = Self::new(seed);
+    }
+
     /// Appends bytes to the stream. Splitting the input into several calls gives the same hash.
     ///
     /// ```
@@ -123,6 +138,33 @@ impl Murmur3X64_128 {
     pub fn digest_bytes(&self) -> [u8; 16] {
         bytes_of(&self.digest())
     }
+
+    /// Returns a checkpoint, from which [`from_bytes`](Self::from_bytes) resumes the stream.
+    ///
+    /// ```
+    /// use sketch_hash::{murmur3_x64_128, Murmur3X64_128};
+    /// let mut hasher = Murmur3X64_128::new(7);
+    /// hasher.update(b"in ");
+    /// let mut later = Murmur3X64_128::from_bytes(&hasher.to_bytes());
+    /// later.update(b"pieces");
+    /// assert_eq!(later.digest(), murmur3_x64_128(b"in pieces", 7));
+    /// ```
+    pub fn to_bytes(&self) -> [u8; 40] {
+        // SAFETY: a state has no padding.
+        unsafe { transmute(self.state) }
+    }
+
+    /// Resumes the stream of a checkpoint. Any other bytes are safe too, and give some hash.
+    ///
+    /// ```
+    /// use sketch_hash::Murmur3X64_128;
+    /// let hasher = Murmur3X64_128::from_bytes(&[5; 40]);
+    /// assert_eq!(hasher.to_bytes(), [5; 40]);
+    /// ```
+    pub fn from_bytes(bytes: &[u8; 40]) -> Self {
+        // SAFETY: any bytes are a state.
+        Murmur3X64_128 { state: unsafe { transmute::<[u8; 40], Murmur3X64_128State>(*bytes) } }
+    }
 }
 
 impl fmt::Debug for Murmur3X64_128 {
@@ -144,4 +186,4 @@ pub struct BuildMurmur3X64_128 {
     seed: u64,
 }
 
-stream!(Murmur3X64_128, Murmur3X64_128State, 40, BuildMurmur3X64_128, |[first, _]| first);
+stream_traits!(Murmur3X64_128, BuildMurmur3X64_128, |[first, _]| first);

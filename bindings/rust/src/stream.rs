@@ -1,4 +1,4 @@
-//! What the streams of both hashes have alike.
+//! The traits that the streams of both hashes have alike.
 
 /// In an `impl Hasher`: a number is written as its bytes, the lowest first, on any processor.
 macro_rules! write_lowest_byte_first {
@@ -10,54 +10,10 @@ macro_rules! write_lowest_byte_first {
     )*};
 }
 
-/// Implements it for a stream, whose `state` has this size and the buffer `waiting`, and for the
-/// builder of its hashers. These finish with 64 bits of the digest.
-macro_rules! stream {
-    ($Stream:ident, $State:ident, $size:literal, $Build:ident, |$digest:pat_param| $finished:expr) => {
-        impl $Stream {
-            /// Starts again with a seed, and no bytes.
-            ///
-            /// ```
-            #[doc = concat!("use sketch_hash::", stringify!($Stream), " as Stream;")]
-            /// let mut hasher = Stream::new(7);
-            /// hasher.update(b"other bytes");
-            /// hasher.reset(9);
-            /// assert_eq!(hasher, Stream::new(9));
-            /// ```
-            #[inline]
-            pub fn reset(&mut self, seed: u64) {
-                *self = Self::new(seed);
-            }
-
-            /// Returns a checkpoint, from which [`from_bytes`](Self::from_bytes) resumes the stream.
-            ///
-            /// ```
-            #[doc = concat!("use sketch_hash::", stringify!($Stream), " as Stream;")]
-            /// let (mut hasher, mut expected) = (Stream::new(7), Stream::new(7));
-            /// hasher.update(b"in ");
-            /// let mut later = Stream::from_bytes(&hasher.to_bytes());
-            /// later.update(b"pieces");
-            /// expected.update(b"in pieces");
-            /// assert_eq!(later.digest(), expected.digest());
-            /// ```
-            pub fn to_bytes(&self) -> [u8; $size] {
-                // SAFETY: a state has no padding.
-                unsafe { core::mem::transmute(self.state) }
-            }
-
-            /// Resumes the stream of a checkpoint. Any other bytes are safe too, and give some hash.
-            ///
-            /// ```
-            #[doc = concat!("use sketch_hash::", stringify!($Stream), " as Stream;")]
-            #[doc = concat!("let bytes = [5; ", $size, "];")]
-            /// assert_eq!(Stream::from_bytes(&bytes).to_bytes(), bytes);
-            /// ```
-            pub fn from_bytes(bytes: &[u8; $size]) -> Self {
-                // SAFETY: any bytes are a state.
-                Self { state: unsafe { core::mem::transmute::<[u8; $size], $State>(*bytes) } }
-            }
-        }
-
+/// Implements them for a stream, whose `state` has the buffer `waiting`, and for the builder of its
+/// hashers. These finish with 64 bits of the digest.
+macro_rules! stream_traits {
+    ($Stream:ident, $Build:ident, |$digest:pat_param| $finished:expr) => {
         impl core::hash::Hasher for $Stream {
             #[inline]
             fn write(&mut self, bytes: &[u8]) {

@@ -2,6 +2,7 @@
 
 use crate::calls::*;
 use core::fmt;
+use core::mem::transmute;
 
 /// Returns XXH64 of `input`.
 ///
@@ -72,6 +73,20 @@ impl Xxh64 {
         Xxh64 { state }
     }
 
+    /// Starts again with a seed, and no bytes.
+    ///
+    /// ```
+    /// use sketch_hash::Xxh64;
+    /// let mut hasher = Xxh64::new(7);
+    /// hasher.update(b"other bytes");
+    /// hasher.reset(9);
+    /// assert_eq!(hasher, Xxh64::new(9));
+    /// ```
+    #[inline]
+    pub fn reset(&mut self, seed: u64) {
+        *self = Xxh64::new(seed);
+    }
+
     /// Appends bytes to the stream. Splitting the input into several calls gives the same hash.
     ///
     /// ```
@@ -110,6 +125,33 @@ impl Xxh64 {
             _ => sketch_xxh64_digest(&self.state),
         }
     }
+
+    /// Returns a checkpoint, from which [`from_bytes`](Self::from_bytes) resumes the stream.
+    ///
+    /// ```
+    /// use sketch_hash::{xxh64, Xxh64};
+    /// let mut hasher = Xxh64::new(7);
+    /// hasher.update(b"in ");
+    /// let mut later = Xxh64::from_bytes(&hasher.to_bytes());
+    /// later.update(b"pieces");
+    /// assert_eq!(later.digest(), xxh64(b"in pieces", 7));
+    /// ```
+    pub fn to_bytes(&self) -> [u8; 80] {
+        // SAFETY: a state has no padding.
+        unsafe { transmute(self.state) }
+    }
+
+    /// Resumes the stream of a checkpoint. Any other bytes are safe too, and give some hash.
+    ///
+    /// ```
+    /// use sketch_hash::Xxh64;
+    /// let hasher = Xxh64::from_bytes(&[5; 80]);
+    /// assert_eq!(hasher.to_bytes(), [5; 80]);
+    /// ```
+    pub fn from_bytes(bytes: &[u8; 80]) -> Self {
+        // SAFETY: any bytes are a state.
+        Xxh64 { state: unsafe { transmute::<[u8; 80], Xxh64State>(*bytes) } }
+    }
 }
 
 impl fmt::Debug for Xxh64 {
@@ -133,4 +175,4 @@ pub struct BuildXxh64 {
     seed: u64,
 }
 
-stream!(Xxh64, Xxh64State, 80, BuildXxh64, |hash| hash);
+stream_traits!(Xxh64, BuildXxh64, |hash| hash);
