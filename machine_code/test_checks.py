@@ -351,7 +351,8 @@ AARCH64 = {
     "carry|not understood": [f"{before}; 1:" for before in (
         "adds x1, x1, x2; b.cs 1f", "tst x1, x2; b.hi 1f", "tst x1, x2; b.cs 1f", "adds x1, x1, x2; b.hi 1f",
         "cmp x1, x1; sbcs x3, x1, x2; b.cs 1f")],
-    "not known": ["cmp x1, x1; sbcs x3, x1, x2; b.eq 1f; 1:"], "not among": ["cmp x1, x2; b.vs 1f; 1:", "cls x1, x0", "mov w1, wsp"],
+    "not known": ["cmp x1, x1; sbcs x3, x1, x2; b.eq 1f; 1:"],
+    "not among": ["cmp x1, x2; b.vs 1f; 1:", "cls x1, x0", "mov w1, wsp"],
 }
 PLANTED = {"x86-64": X86, "aarch64": AARCH64, "packed": {None: [POINTERS]}}
 
